@@ -1,0 +1,148 @@
+// Leaves over the boards: the neighbours of a cell in row order, what a cell shows once open, and counts around a cell.
+// A cell is given by its row and column, which its caller takes apart once. The contracts cite rules' Grid and Board, and specs/Ground.
+ghost use mathlib.Core.Path.{_≡_};
+ghost use Prim.Native.Nat.{ℕ, _+_, _*_, _/_, _%_, _<_, _≤_};
+ghost use lib.ListN.{length};
+ghost use Rattle.rules.specs.Words.{bit};
+ghost use Rattle.rules.specs.Grid.{cellOf, ninth, cellBefore, around};
+ghost use Rattle.rules.specs.Board.{faceAt};
+ghost use Rattle.cells.specs.Ground.{Sized, Valued, faceIs, Saw, SeenAround};
+
+// Place 4 of nine is the cell itself.
+fn ninth_of(k: usize) -> usize
+    requires { ⌜ k < 8 ⌝ }
+    ensures { λ r. ⌜ r ≡ ninth k ⌝ }
+{
+    if 4 <= k {
+        return k + 1;
+    }
+    k
+}
+
+// The cell one row above and one column before (r, c); rows * columns, which is no cell, where that is off the board.
+fn cell_before(rows: usize, columns: usize, r: usize, c: usize) -> usize
+    requires { ⌜ Sized rows columns ⌝ }
+    ensures { λ q. ⌜ q ≡ cellBefore rows columns r c ⌝ }
+{
+    if r < 1 {
+        return rows * columns;
+    }
+    if rows < r {
+        return rows * columns;
+    }
+    if c < 1 {
+        return rows * columns;
+    }
+    if columns < c {
+        return rows * columns;
+    }
+    (r - 1) * columns + (c - 1)
+}
+
+// The k-th neighbour of the cell at a row and a column, in row order; rows * columns where it is off the board.
+pub fn neighbour_at(rows: usize, columns: usize, row: usize, column: usize, k: usize) -> usize
+    requires { ⌜ Sized rows columns ⌝ }
+    requires { ⌜ (row < rows) × (column < columns) ⌝ }
+    requires { ⌜ k < 8 ⌝ }
+    ensures { λ r. ⌜ r ≡ cellBefore rows columns (row + ninth k / 3) (column + ninth k % 3) ⌝ }
+{
+    let j = ninth_of(k);
+    cell_before(rows, columns, row + j / 3, column + j % 3)
+}
+
+// What a cell shows once it is open: its number, or 15 for a mine.
+pub fn face_at(mines: &[i8], cell: usize) -> u8
+    requires { ⌜ cell < length (now mines) ⌝ }
+    requires { ⌜ Valued (now mines) ⌝ }
+    ensures { λ r. ⌜ r ≡ faceAt (now (mines .entry)) cell ⌝ }
+{
+    let v = mines[cell];
+    if v < 0 {
+        return 15;
+    }
+    v as u8
+}
+
+// How many neighbours of a cell show 11, and how many 10.
+pub struct Around {
+    pub flags: u8,
+    pub closed: u8,
+}
+
+// One neighbour more is looked at; off the board nothing is shown.
+fn see(shown: &[u8], q: usize, past: Around) -> Around
+    requires { ⌜ (past .flags < 8) × (past .closed < 8) ⌝ }
+    ensures { λ r. ⌜ Saw (now (shown .entry)) q past r ⌝ }
+{
+    if shown.len() <= q {
+        return past;
+    }
+    let v = shown[q];
+    if v == 11 {
+        return Around {
+            flags: past.flags + 1,
+            closed: past.closed,
+        };
+    }
+    if v == 10 {
+        return Around {
+            flags: past.flags,
+            closed: past.closed + 1,
+        };
+    }
+    past
+}
+
+// The flags and the closed cells around a cell.
+pub fn shown_around(shown: &[u8], rows: usize, columns: usize, row: usize, column: usize) -> Around
+    requires { ⌜ Sized rows columns ⌝ }
+    requires { ⌜ (row < rows) × (column < columns) ⌝ }
+    ensures { λ r. ⌜ SeenAround (now (shown .entry)) rows columns (cellOf columns row column) r ⌝ }
+{
+    let mut seen = Around {
+        flags: 0,
+        closed: 0,
+    };
+    for k in 0..8 {
+        let q = neighbour_at(rows, columns, row, column, k);
+        seen = see(shown, q, seen);
+    }
+    seen
+}
+
+// 1 for a cell of the board whose face is f, else 0.
+fn has_face(mines: &[i8], q: usize, f: u8) -> u8
+    requires { ⌜ Valued (now mines) ⌝ }
+    ensures { λ r. ⌜ r ≡ bit (faceIs (now (mines .entry)) f q) ⌝ }
+{
+    if mines.len() <= q {
+        return 0;
+    }
+    if face_at(mines, q) == f {
+        return 1;
+    }
+    0
+}
+
+// How many neighbours of a cell have the face f: 15 for mines, 0 for the 0 cells.
+pub fn faces_around(
+    mines: &[i8],
+    rows: usize,
+    columns: usize,
+    row: usize,
+    column: usize,
+    f: u8,
+) -> u8
+    requires { ⌜ Sized rows columns ⌝ }
+    requires { ⌜ (row < rows) × (column < columns) ⌝ }
+    requires { ⌜ Valued (now mines) ⌝ }
+    ensures { λ r. ⌜ (r ≡ around rows columns (faceIs (now (mines .entry)) f) (cellOf columns row column)) × (r ≤ 8) ⌝ }
+{
+    let mut n: u8 = 0;
+    for k in 0..8 {
+        let q = neighbour_at(rows, columns, row, column, k);
+        let one = has_face(mines, q, f);
+        n += one;
+    }
+    n
+}

@@ -1,0 +1,97 @@
+-- The game book: three sections in fixed order, read front to back; the first fault answers, with its byte place.
+use mathlib.Core.Bool.{Bool, true, false, _&&_}
+use mathlib.Core.List.{List, [], _∷_}
+use Prim.Native.Nat.{ℕ, zero, suc, _+_, _*_}
+use lib.Dec.{ltb, leb, eqb}
+use lib.ListN.{length, getD, take, drop}
+use Rattle.rules.specs.declared.Settings.{Settings}
+use Rattle.rules.specs.declared.Book.{Book}
+use Rattle.rules.specs.Words.{pick, unless, count, every}
+use Rattle.rules.specs.Grid.{sizeOk, cellOf}
+use Rattle.rules.specs.Board.{mineOk}
+use Rattle.rules.specs.Calls.{modeOk}
+
+abbrev pub byteAt : List ℕ → ℕ → ℕ
+byteAt s at = getD s at 0
+
+-- a two-byte count, low byte first
+abbrev pub wordAt : List ℕ → ℕ → ℕ
+wordAt s at = byteAt s at + 256 * byteAt s (at + 1)
+
+-- no book; a refusal with its place
+abbrev pub noSettings : Settings
+noSettings = record { rows = 0; columns = 0; mode = 0; question = false }
+
+abbrev pub refusedBook : ℕ → ℕ → Book
+refusedBook n place = record { number = n; place = place; settings = noSettings; «mines_at» = 0; mines = 0; «events_at» = 0; events = 0 }
+
+-- refusal n at a place unless the test holds, else the rest
+abbrev pub orElse : ℕ → ℕ → Bool → Book → Book
+orElse n place true rest = rest
+orElse n place false rest = refusedBook n place
+
+-- 40: the bytes end (place: the length)
+abbrev pub reaches : List ℕ → ℕ → Book → Book
+reaches s end rest = orElse 40 (length s) (leb end (length s)) rest
+
+-- ---- events: two-byte count, then code, row, column each ------------------------------------------------------------------------------
+
+-- 43: bytes left over (the first)
+abbrev pub bookEnds : List ℕ → ℕ → Book → Book
+bookEnds s end b = orElse 43 end (leb (length s) end) b
+
+abbrev pub maxEvents : ℕ
+maxEvents = 8192
+
+-- 44: over 8,192 events, tested once the event count is read (its first byte)
+unfoldable pub eventsFrom : List ℕ → ℕ → Settings → ℕ → ℕ → Book
+eventsFrom s at g minesAt n =
+    reaches s (at + 2)
+    (orElse 44 at (leb (wordAt s at) maxEvents)
+    (reaches s (at + 2 + 3 * wordAt s at)
+    (bookEnds s (at + 2 + 3 * wordAt s at)
+    (record { number = 0; place = 0; settings = g; «mines_at» = minesAt; mines = n; «events_at» = at + 2; events = wordAt s at }))))
+
+-- ---- mines: two-byte count, then row and column each, strictly rising in row order -----------------------------------------------------
+
+-- the mine list of a section that starts at a place
+abbrev pub mineBytes : List ℕ → ℕ → ℕ → List ℕ
+mineBytes s at n = take (2 * n) (drop at s)
+
+-- each mine's two bytes are taken before they are tested; 42: a mine off the board or not rising (its row byte).
+-- the n-th mine of the bytes from `at` on, where `left` are still to come
+unfoldable pub minesFrom : List ℕ → ℕ → ℕ → ℕ → ℕ → ℕ → Book → Book
+minesFrom s R C at n zero rest = rest
+minesFrom s R C at n (suc left) rest =
+    let more = minesFrom s R C at (suc n) left rest in
+    reaches s (at + 2 * n + 2) (orElse 42 (at + 2 * n) (mineOk R C (drop at s) n) more)
+
+-- 24: at least as many mines as cells, tested once the mine count is read (its first byte)
+unfoldable pub minesSection : List ℕ → ℕ → Settings → Book
+minesSection s at g =
+    reaches s (at + 2)
+    (orElse 24 at (ltb (wordAt s at) (g .rows * g .columns))
+    (minesFrom s (g .rows) (g .columns) (at + 2) 0 (wordAt s at) (eventsFrom s (at + 2 + 2 * wordAt s at) g (at + 2) (wordAt s at))))
+
+-- ---- settings: count byte 4, then rows, columns, mode, question (0 or 1) ---------------------------------------------------------------
+
+abbrev pub settingsAt : List ℕ → Settings
+settingsAt s = record { rows = byteAt s 1; columns = byteAt s 2; mode = byteAt s 3; question = eqb (byteAt s 4) 1 }
+
+-- the settings count is tested first, then that its four bytes are there, then question, size, mode
+unfoldable pub bookOf : List ℕ → Book
+bookOf s =
+    reaches s 1
+    (orElse 41 0 (eqb (byteAt s 0) 4)
+    (reaches s 5
+    (orElse 41 4 (leb (byteAt s 4) 1)
+    (orElse 20 1 (sizeOk (byteAt s 1) (byteAt s 2))
+    (orElse 25 3 (modeOk (byteAt s 3))
+    (minesSection s 5 (settingsAt s)))))))
+
+-- the parts of the book's own bytes that hold its mines and its event records
+unfoldable pub minesOf : List ℕ → Book → List ℕ
+minesOf s b = take (2 * b .mines) (drop (b .«mines_at») s)
+
+unfoldable pub eventsOf : List ℕ → Book → List ℕ
+eventsOf s b = take (3 * b .events) (drop (b .«events_at») s)

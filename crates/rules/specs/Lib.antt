@@ -1,0 +1,16 @@
+pub mod Words
+pub mod States
+pub mod Grid
+pub mod Board
+pub mod Lent
+pub mod Opening
+pub mod Judging
+pub mod Clicks
+pub mod Passes
+pub mod Mouse
+pub mod Step
+pub mod Lawful
+pub mod Calls
+pub mod Book
+pub mod Printout
+pub mod Positions

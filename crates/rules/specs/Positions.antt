@@ -1,0 +1,132 @@
+-- The positions that document 01 marks P, and two beside them, as one table and one theorem that the checker computes over the definitions.
+-- Open is lc, lr; flag rc, rr. Each row is a game from its fresh start: settings, mine list, events, and all that stands at its end.
+use mathlib.Core.Path.{_≡_, refl}
+use mathlib.Core.Bool.{Bool, true, false, not, _&&_, _||_}
+use mathlib.Core.List.{List, [], _∷_, _++_}
+use Prim.Native.Nat.{ℕ, _*_}
+use lib.Dec.{eqb}
+use lib.ListN.{length, replicate}
+use Rattle.rules.specs.declared.Settings.{Settings}
+use Rattle.rules.specs.Words.{pick, unless, count, every, inOrder, stackOf, below, rounds}
+use Rattle.rules.specs.States.{gameNumber, mouseNumber, mouseAt, freshOf}
+use Rattle.rules.specs.Grid.{sizeOk, ninth, cellBefore, neighbour, around, pushed}
+use Rattle.rules.specs.Board.{zeroAt, loneAt, mineOk, listedMine, numberedAt, numbered, numberingRefusal}
+use Rattle.rules.specs.Lent.{bitAt, withBit, bitBytes}
+use Rattle.rules.specs.Opening.{shownAfter, stackAfter, hitAfter, run, crossed, refreshed}
+use Rattle.rules.specs.Judging.{freeAt, kind, walk, walkFrom, judgedLeft, judgeOne, tally, openingsJudged, lones, total3bv}
+use Rattle.rules.specs.Clicks.{Play, done, desk, isWon, ended, solvesLeft, leftOpens, leftClick, bitsWith, addsRce, takeBack, chordIsUseful, chordOpens, performChord}
+use Rattle.rules.specs.Passes.{allClosed, ripeAt, listed, flagOne, flagAll, flagRound, flagPass, chordOne, chordScan, chordRound, chordPass, bothRound, bothPass, passesAfterFlag, passesAfterChord, rightClick, chordingClick}
+use Rattle.rules.specs.Mouse.{mouseTable, nextMouse, moved, bothDown, resolved, flipped}
+use Rattle.rules.specs.Step.{seenAt, leftAt, rightAt, chordAt, chordFrom, playLc, playLr, playRc, playRr, playing, preFlag, readyLc, readyRc, ready, preLeft, preLr, preCell, preRight, preRc, preFlaging, byGame, pointerOf, eventOf, errsPlaying, errsPreFlaging, badPreFlag, eventRefusal, plainOf, refusalAt, playAt, stepAt, stepBy, stepOn}
+use Rattle.rules.specs.Calls.{plays, lastPlay, cellsIn}
+use Rattle.rules.specs.Printout.{nineCounts, twoBv}
+
+pub record Row : Type 0 where
+  pub name : ℕ
+  pub settings : Settings
+  pub mines : List ℕ
+  pub events : List ℕ
+  pub gives : List ℕ
+
+-- the last answer, the game and mouse states, the nine counts, the bv line, the shown cells
+unfoldable told : Settings → List ℕ → Play → List ℕ
+told s mines o =
+    (o .answer ∷ gameNumber (o .desk .position .game) ∷ mouseNumber (o .desk .position .mouse) ∷ nineCounts (o .desk .position))
+    ++ (twoBv (numbered (s .rows) (s .columns) mines) (o .desk .position) ++ o .desk .shown)
+
+fresh : Settings → Play
+fresh s = done 0 (desk (freshOf s) (replicate (cellsIn s) 10) (replicate (bitBytes (cellsIn s)) 0))
+
+-- a game played, or the refusal of its mine list
+unfoldable ends : Row → List ℕ
+ends t =
+    pick
+    (eqb (numberingRefusal (t .settings .rows) (t .settings .columns) (t .mines) (numbered (t .settings .rows) (t .settings .columns) (t .mines))) 0)
+    (told (t .settings) (t .mines)
+    (lastPlay (fresh (t .settings)) (plays (numbered (t .settings .rows) (t .settings .columns) (t .mines)) (t .events) (fresh (t .settings) .desk))))
+    (numberingRefusal (t .settings .rows) (t .settings .columns) (t .mines) (numbered (t .settings .rows) (t .settings .columns) (t .mines)) ∷ [])
+
+same : List ℕ → List ℕ → Bool
+same [] [] = true
+same (x ∷ xs) [] = false
+same [] (y ∷ ys) = false
+same (x ∷ xs) (y ∷ ys) = eqb x y && same xs ys
+
+-- the names of the rows that do not hold
+pub wrongRows : List Row → List ℕ
+wrongRows [] = []
+wrongRows (t ∷ ts) = let more = wrongRows ts in pick (same (ends t) (t .gives)) more (t .name ∷ more)
+
+-- rows, columns, mode, question marks
+size : ℕ → ℕ → ℕ → Bool → Settings
+size R C mode q = record { rows = R; columns = C; mode = mode; question = q }
+
+row : ℕ → Settings → List ℕ → List ℕ → List ℕ → Row
+row n s mines events gives = record { name = n; settings = s; mines = mines; events = events; gives = gives }
+
+open′ : ℕ → ℕ → List ℕ → List ℕ
+open′ r c es = 0 ∷ r ∷ c ∷ 1 ∷ r ∷ c ∷ es
+
+flag′ : ℕ → ℕ → List ℕ → List ℕ
+flag′ r c es = 2 ∷ r ∷ c ∷ 3 ∷ r ∷ c ∷ es
+
+event : ℕ → ℕ → ℕ → List ℕ → List ℕ
+event code r c es = code ∷ r ∷ c ∷ es
+
+-- each row gives: answer, game, mouse; left, right, double, lce, rce, dce, flag, solved_left, solved_chord; total, left to solve; the shown cells
+pub table : List Row
+table =
+    -- the worked printout: 1×3, mine (0,1); open (0,0), flag (0,1), open (0,2)
+    row 1 (size 1 3 0 false) (0 ∷ 1 ∷ []) (open′ 0 0 (flag′ 0 1 (open′ 0 2 [])))
+    (2 ∷ 2 ∷ 0 ∷ 2 ∷ 1 ∷ 0 ∷ 2 ∷ 1 ∷ 0 ∷ 1 ∷ 2 ∷ 0 ∷ 2 ∷ 0 ∷ 1 ∷ 11 ∷ 1 ∷ [])
+    -- 2×2, mine (0,0); open (1,1), flag (0,0), mr (1,1): 3, Win, solved 1 and 2
+    ∷ row 2 (size 2 2 0 false) (0 ∷ 0 ∷ []) (open′ 1 1 (flag′ 0 0 (event 6 1 1 [])))
+    (3 ∷ 2 ∷ 0 ∷ 1 ∷ 1 ∷ 1 ∷ 1 ∷ 1 ∷ 1 ∷ 1 ∷ 1 ∷ 2 ∷ 3 ∷ 0 ∷ 11 ∷ 1 ∷ 1 ∷ 1 ∷ [])
+    -- 3×3, mine (2,2); open (1,1), flag (2,0), mr (1,1): 4, rows 0 0 0 / 0 1 1 / 14 1 15, solved_chord 1
+    ∷ row 3 (size 3 3 0 false) (2 ∷ 2 ∷ []) (open′ 1 1 (flag′ 2 0 (event 6 1 1 [])))
+    (4 ∷ 3 ∷ 0 ∷ 1 ∷ 1 ∷ 1 ∷ 1 ∷ 0 ∷ 1 ∷ 1 ∷ 0 ∷ 1 ∷ 1 ∷ 0 ∷ 0 ∷ 0 ∷ 0 ∷ 0 ∷ 1 ∷ 1 ∷ 14 ∷ 1 ∷ 15 ∷ [])
+    -- 1×3, mine (0,0), mode 11; open (0,1), flag (0,2), mr (0,0): answer 0, Loss, 15 1 14, dce 0
+    ∷ row 4 (size 1 3 11 false) (0 ∷ 0 ∷ []) (open′ 0 1 (flag′ 0 2 (event 6 0 0 [])))
+    (0 ∷ 3 ∷ 0 ∷ 1 ∷ 1 ∷ 1 ∷ 1 ∷ 0 ∷ 0 ∷ 1 ∷ 0 ∷ 0 ∷ 1 ∷ 1 ∷ 15 ∷ 1 ∷ 14 ∷ [])
+    -- 1×3, mine (0,1), questions on; rc, rr on (0,0), (0,2), (0,0), (0,2), then rc (0,0): 1, Ready, right 0, 10 10 17
+    ∷ row 5 (size 1 3 0 true) (0 ∷ 1 ∷ []) (flag′ 0 0 (flag′ 0 2 (flag′ 0 0 (flag′ 0 2 (event 2 0 0 [])))))
+    (1 ∷ 0 ∷ 1 ∷ 0 ∷ 0 ∷ 0 ∷ 0 ∷ 0 ∷ 0 ∷ 0 ∷ 0 ∷ 0 ∷ 2 ∷ 2 ∷ 10 ∷ 10 ∷ 17 ∷ [])
+    -- 3×4, all eight around (1,1) mined, mode 12; open (1,1), flag (0,0): eight flags, rce 1
+    ∷ row 6 (size 3 4 12 false) (0 ∷ 0 ∷ 0 ∷ 1 ∷ 0 ∷ 2 ∷ 1 ∷ 0 ∷ 1 ∷ 2 ∷ 2 ∷ 0 ∷ 2 ∷ 1 ∷ 2 ∷ 2 ∷ []) (open′ 1 1 (event 2 0 0 []))
+    (1 ∷ 1 ∷ 1 ∷ 1 ∷ 1 ∷ 0 ∷ 1 ∷ 1 ∷ 0 ∷ 8 ∷ 1 ∷ 0 ∷ 4 ∷ 3 ∷ 11 ∷ 11 ∷ 11 ∷ 10 ∷ 11 ∷ 8 ∷ 11 ∷ 10 ∷ 11 ∷ 11 ∷ 11 ∷ 10 ∷ [])
+    -- mr (1,1) then answers 0
+    ∷ row 7 (size 3 4 12 false) (0 ∷ 0 ∷ 0 ∷ 1 ∷ 0 ∷ 2 ∷ 1 ∷ 0 ∷ 1 ∷ 2 ∷ 2 ∷ 0 ∷ 2 ∷ 1 ∷ 2 ∷ 2 ∷ []) (open′ 1 1 (flag′ 0 0 (event 6 1 1 [])))
+    (0 ∷ 1 ∷ 0 ∷ 1 ∷ 1 ∷ 1 ∷ 1 ∷ 1 ∷ 0 ∷ 8 ∷ 1 ∷ 0 ∷ 4 ∷ 3 ∷ 11 ∷ 11 ∷ 11 ∷ 10 ∷ 11 ∷ 8 ∷ 11 ∷ 10 ∷ 11 ∷ 11 ∷ 11 ∷ 10 ∷ [])
+    -- 1×4, mine (0,0), mode 12; open (0,1), flag (0,2), flag (0,0): remainder -1, 11 1 11 10
+    ∷ row 8 (size 1 4 12 false) (0 ∷ 0 ∷ []) (open′ 0 1 (flag′ 0 2 (flag′ 0 0 [])))
+    (0 ∷ 1 ∷ 0 ∷ 1 ∷ 2 ∷ 0 ∷ 1 ∷ 1 ∷ 0 ∷ 2 ∷ 0 ∷ 0 ∷ 1 ∷ 1 ∷ 11 ∷ 1 ∷ 11 ∷ 10 ∷ [])
+    -- 1×3 pointers: (1,3) accepted, (0,3) and (1,2) 30
+    ∷ row 9 (size 1 3 0 false) (0 ∷ 1 ∷ []) (event 4 1 3 [])
+    (0 ∷ 0 ∷ 0 ∷ 0 ∷ 0 ∷ 0 ∷ 0 ∷ 0 ∷ 0 ∷ 0 ∷ 0 ∷ 0 ∷ 2 ∷ 2 ∷ 10 ∷ 10 ∷ 10 ∷ [])
+    ∷ row 10 (size 1 3 0 false) (0 ∷ 1 ∷ []) (event 4 0 3 [])
+    (30 ∷ 0 ∷ 0 ∷ 0 ∷ 0 ∷ 0 ∷ 0 ∷ 0 ∷ 0 ∷ 0 ∷ 0 ∷ 0 ∷ 2 ∷ 2 ∷ 10 ∷ 10 ∷ 10 ∷ [])
+    ∷ row 11 (size 1 3 0 false) (0 ∷ 1 ∷ []) (event 4 1 2 [])
+    (30 ∷ 0 ∷ 0 ∷ 0 ∷ 0 ∷ 0 ∷ 0 ∷ 0 ∷ 0 ∷ 0 ∷ 0 ∷ 0 ∷ 2 ∷ 2 ∷ 10 ∷ 10 ∷ 10 ∷ [])
+    -- Playing, UpDownNotFlag (a right press on the open cell), r: 0, state kept
+    ∷ row 12 (size 1 3 0 false) (0 ∷ 1 ∷ []) (open′ 0 0 (event 2 0 0 (event 10 0 0 [])))
+    (0 ∷ 1 ∷ 2 ∷ 1 ∷ 1 ∷ 0 ∷ 1 ∷ 0 ∷ 0 ∷ 0 ∷ 1 ∷ 0 ∷ 2 ∷ 1 ∷ 1 ∷ 10 ∷ 10 ∷ [])
+    -- 1×1 safe opens to Win; 1×1 mine 24
+    ∷ row 13 (size 1 1 0 false) [] (open′ 0 0 []) (2 ∷ 2 ∷ 0 ∷ 1 ∷ 0 ∷ 0 ∷ 1 ∷ 0 ∷ 0 ∷ 0 ∷ 1 ∷ 0 ∷ 1 ∷ 0 ∷ 0 ∷ [])
+    ∷ row 14 (size 1 1 0 false) (0 ∷ 0 ∷ []) [] (24 ∷ [])
+    -- beside the paper's: a remainder of -2 with two closed neighbours flags nothing; 2×3, mine (0,0), mode 12; open (0,1), flag (0,2), (1,2), (1,1)
+    ∷ row 15 (size 2 3 12 false) (0 ∷ 0 ∷ []) (open′ 0 1 (flag′ 0 2 (flag′ 1 2 (flag′ 1 1 []))))
+    (0 ∷ 1 ∷ 0 ∷ 1 ∷ 3 ∷ 0 ∷ 1 ∷ 0 ∷ 0 ∷ 3 ∷ 0 ∷ 0 ∷ 2 ∷ 2 ∷ 10 ∷ 1 ∷ 11 ∷ 10 ∷ 11 ∷ 11 ∷ [])
+    -- the solved counts may pass the total; 1×3, no mine: flag (0,0) and (0,2), open (0,1), take both back, open (0,0) and (0,2)
+    ∷ row 16 (size 1 3 0 false) [] (flag′ 0 0 (flag′ 0 2 (open′ 0 1 (flag′ 0 0 (flag′ 0 2 (open′ 0 0 (open′ 0 2 [])))))))
+    (2 ∷ 2 ∷ 0 ∷ 3 ∷ 4 ∷ 0 ∷ 3 ∷ 0 ∷ 0 ∷ 0 ∷ 2 ∷ 0 ∷ 1 ∷ 0 ∷ 0 ∷ 0 ∷ 0 ∷ [])
+    ∷ []
+
+pub positions : wrongRows table ≡ []
+unfolding wrongRows same ends told fresh table row size open′ flag′ event count every inOrder stackOf below rounds mouseAt sizeOk ninth cellBefore neighbour
+    around pushed zeroAt loneAt mineOk listedMine numberedAt numbered numberingRefusal bitAt withBit shownAfter stackAfter hitAfter run crossed refreshed freeAt
+    kind walk walkFrom judgedLeft judgeOne tally openingsJudged lones total3bv isWon ended solvesLeft leftOpens leftClick bitsWith addsRce takeBack
+    chordIsUseful chordOpens performChord allClosed ripeAt listed flagOne flagAll flagRound flagPass chordOne chordScan chordRound chordPass bothRound bothPass
+    passesAfterFlag passesAfterChord rightClick chordingClick mouseTable nextMouse moved bothDown resolved flipped seenAt leftAt rightAt chordAt chordFrom
+    playLc playLr playRc playRr playing preFlag readyLc readyRc ready preLeft preLr preCell preRight preRc preFlaging byGame pointerOf eventOf errsPlaying
+    errsPreFlaging badPreFlag eventRefusal plainOf refusalAt playAt stepAt stepBy stepOn plays lastPlay
+positions = refl

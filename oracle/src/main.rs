@@ -1,0 +1,146 @@
+// The oracle's subcommands: the Rust as the judge of books, positions and single steps.
+
+mod board;
+mod book;
+mod books;
+mod coverage;
+mod drawn;
+mod game;
+mod lawful;
+mod layout;
+mod packed;
+mod player;
+mod position;
+mod positions;
+mod printout;
+mod random;
+mod sections;
+mod steps;
+
+use books::Kind;
+use printout::printout;
+use std::io::{BufWriter, Read, Write};
+use std::process::ExitCode;
+use steps::Start;
+
+const USAGE: &str = "usage:
+  oracle play                        a book on standard input: its printout
+  oracle positions                   the P and Run positions of document 01
+  oracle books SEED COUNT [KIND]     packed books: small, large, deep, damaged or mixed
+  oracle answers [--sum]             packed books on standard input: their printouts, or their sums
+  oracle pick NUMBER                 packed books on standard input: the one of this number, from 1
+  oracle steps SEED COUNT [START]    single steps from positions: lawful or spoiled
+  oracle coverage SEED COUNT [KIND]  what such books reach";
+
+type Outcome = Result<bool, String>;
+
+fn main() -> ExitCode {
+    let arguments: Vec<String> = std::env::args().skip(1).collect();
+    let words: Vec<&str> = arguments.iter().map(String::as_str).collect();
+    match run(&words) {
+        Ok(true) => ExitCode::SUCCESS,
+        Ok(false) => ExitCode::FAILURE,
+        Err(message) => {
+            eprintln!("oracle: {message}");
+            ExitCode::from(2)
+        }
+    }
+}
+
+fn run(words: &[&str]) -> Outcome {
+    match words {
+        ["play"] => write(printout(&input()?).as_bytes()),
+        ["positions"] => Ok(positions::agree()),
+        ["books", seed, count] => write_books(number(seed)?, number(count)?, Kind::Mixed),
+        ["books", seed, count, kind] => write_books(number(seed)?, number(count)?, kind_named(kind)?),
+        ["answers"] => answers(printout),
+        ["answers", "--sum"] => answers(sum),
+        ["pick", book] => pick(number(book)?),
+        ["steps", seed, count] => write_steps(number(seed)?, number(count)?, Start::Lawful),
+        ["steps", seed, count, start] => write_steps(number(seed)?, number(count)?, start_named(start)?),
+        ["coverage", seed, count] => cover(number(seed)?, number(count)?, Kind::Mixed),
+        ["coverage", seed, count, kind] => cover(number(seed)?, number(count)?, kind_named(kind)?),
+        _ => Err(USAGE.into()),
+    }
+}
+
+fn number(word: &str) -> Result<u64, String> {
+    word.parse().map_err(|_| format!("{word} is not a number"))
+}
+
+fn kind_named(word: &str) -> Result<Kind, String> {
+    Kind::named(word).ok_or(format!("{word} is not a kind of books"))
+}
+
+fn start_named(word: &str) -> Result<Start, String> {
+    Start::named(word).ok_or(format!("{word} is not a start of steps"))
+}
+
+fn write_books(seed: u64, count: u64, kind: Kind) -> Outcome {
+    let mut packed = Vec::new();
+    for number in 0..count {
+        packed::pack(&mut packed, &books::book(seed, number, kind));
+    }
+    write(&packed)
+}
+
+fn answers(of: fn(&[u8]) -> String) -> Outcome {
+    let stream = input()?;
+    let mut out = BufWriter::new(std::io::stdout());
+    for book in packed::unpack(&stream)? {
+        out.write_all(of(book).as_bytes()).map_err(said)?;
+    }
+    out.flush().map_err(said)?;
+    Ok(true)
+}
+
+/// A printout's 64-bit FNV-1a sum and its length.
+fn sum(book: &[u8]) -> String {
+    let text = printout(book);
+    let mix = |hash: u64, byte: u8| (hash ^ u64::from(byte)).wrapping_mul(0x0000_0100_0000_01b3);
+    let hash = text.bytes().fold(0xcbf2_9ce4_8422_2325, mix);
+    format!("{hash:016x} {}\n", text.len())
+}
+
+fn pick(number: u64) -> Outcome {
+    let stream = input()?;
+    let books = packed::unpack(&stream)?;
+    let place = usize::try_from(number).ok().and_then(|number| number.checked_sub(1));
+    let book = place.and_then(|place| books.get(place)).ok_or(format!("no book {number} among {}", books.len()))?;
+    write(book)
+}
+
+fn write_steps(seed: u64, count: u64, start: Start) -> Outcome {
+    let mut out = BufWriter::new(std::io::stdout());
+    for number in 0..count {
+        match steps::case(seed, number, start) {
+            Ok(line) => writeln!(out, "{line}").map_err(said)?,
+            Err(message) => {
+                eprintln!("oracle: {message}");
+                return Ok(false);
+            }
+        }
+    }
+    out.flush().map_err(said)?;
+    Ok(true)
+}
+
+fn cover(seed: u64, count: u64, kind: Kind) -> Outcome {
+    coverage::report(seed, count, kind);
+    Ok(true)
+}
+
+fn input() -> Result<Vec<u8>, String> {
+    let mut bytes = Vec::new();
+    std::io::stdin().read_to_end(&mut bytes).map_err(said)?;
+    Ok(bytes)
+}
+
+fn write(bytes: &[u8]) -> Outcome {
+    std::io::stdout().write_all(bytes).map_err(said)?;
+    Ok(true)
+}
+
+fn said(error: std::io::Error) -> String {
+    error.to_string()
+}

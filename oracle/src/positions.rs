@@ -1,0 +1,253 @@
+// The P and Run positions of document 01, played on the Rust; each holds what was seen beside what the paper tells.
+
+use crate::game::*;
+use crate::printout::{printout, spaced};
+use std::panic::{catch_unwind, set_hook, take_hook};
+
+struct Told {
+    name: &'static str,
+    seen: String,
+    told: String,
+}
+
+/// Prints a line a position; true if the Rust agrees with all of them.
+pub fn agree() -> bool {
+    let positions = positions();
+    let mut differences = 0;
+    for position in &positions {
+        if position.seen == position.told {
+            println!("agrees   {}", position.name);
+        } else {
+            differences += 1;
+            println!("differs  {}\n  told {}\n  seen {}", position.name, position.told, position.seen);
+        }
+    }
+    if differences == 0 {
+        println!("{} positions agree", positions.len());
+    } else {
+        println!("{} of {} positions differ", differences, positions.len());
+    }
+    differences == 0
+}
+
+fn positions() -> Vec<Told> {
+    vec![
+        worked_printout(),
+        chord_wins(),
+        chord_loses(),
+        pass_loses(),
+        pre_flags_with_questions(),
+        eight_flags(),
+        eight_is_never_chorded(),
+        negative_remainder(),
+        pointers(),
+        r_in_up_down_not_flag(),
+        one_safe_cell(),
+        one_mine(),
+        largest_size(),
+        size_too_large(),
+        last_event(),
+        pf_while_playing(),
+        panics(),
+    ]
+}
+
+fn position(name: &'static str, seen: impl ToString, told: impl ToString) -> Told {
+    Told { name, seen: seen.to_string(), told: told.to_string() }
+}
+
+const WORKED_BOOK: [u8; 29] = [
+    4, 1, 3, 0, 0, 1, 0, 0, 1, 6, 0, // settings, one mine, six events
+    0, 0, 0, 1, 0, 0, 2, 0, 1, 3, 0, 1, 0, 0, 2, 1, 0, 2,
+];
+
+const WORKED_PRINTOUT: &str = "game 1 3 0 0
+1 0 4 3
+2 2 1 0
+3 1 1 1
+4 0 1 0
+5 0 1 3
+6 2 2 0
+counts 2 1 0 2 1 0 1 2 0
+bv 2 0
+1 11 1
+";
+
+fn worked_printout() -> Told {
+    position("P: the printout", printout(&WORKED_BOOK), WORKED_PRINTOUT)
+}
+
+fn chord_wins() -> Told {
+    let mut game = new(2, 2, 0, &[(0, 0)]);
+    game.open(1, 1);
+    game.flag(0, 0);
+    let answer = game.step(MR, 1, 1);
+    let board = &game.board;
+    position(
+        "P: 2x2, mine (0,0); open (1,1), flag (0,0), mr (1,1)",
+        format!("{answer} {:?} solved {} {}", game.state(), board.bbbv_solved_left, board.bbbv_solved_chord),
+        "3 Win solved 1 2",
+    )
+}
+
+fn chord_loses() -> Told {
+    let mut game = new(3, 3, 0, &[(2, 2)]);
+    game.open(1, 1);
+    game.flag(2, 0);
+    let answer = game.step(MR, 1, 1);
+    position(
+        "P: 3x3, mine (2,2); open (1,1), flag (2,0), mr (1,1)",
+        format!("{answer}, {}, solved_chord {}", game.rows(), game.board.bbbv_solved_chord),
+        "4, 0 0 0 / 0 1 1 / 14 1 15, solved_chord 1",
+    )
+}
+
+fn pass_loses() -> Told {
+    let mut game = new(1, 3, 11, &[(0, 0)]);
+    game.open(0, 1);
+    game.flag(0, 2);
+    let answer = game.step(MR, 0, 0);
+    position(
+        "P: 1x3, mine (0,0), mode 11; open (0,1), flag (0,2), mr (0,0)",
+        format!("{answer} {:?} {}, dce {}", game.state(), game.rows(), game.board.dce),
+        "0 Loss 15 1 14, dce 0",
+    )
+}
+
+fn pre_flags_with_questions() -> Told {
+    let settings = Settings { rows: 1, columns: 3, mode: 0, question: true };
+    let mut game = Game::setup(settings, &[(0, 1)]).expect("a lawful setup");
+    for column in [0, 2, 0, 2] {
+        game.flag(0, column);
+    }
+    let answer = game.step(RC, 0, 0);
+    position(
+        "P: 1x3, mine (0,1), questions on; rc, rr on (0,0), (0,2), (0,0), (0,2), then rc (0,0)",
+        format!("{answer} {:?}, right {}, {}", game.state(), game.board.right, game.rows()),
+        "1 Ready, right 0, 10 10 17",
+    )
+}
+
+const AROUND_1_1: [(usize, usize); 8] = [(0, 0), (0, 1), (0, 2), (1, 0), (1, 2), (2, 0), (2, 1), (2, 2)];
+
+fn ring_of_mines() -> Game {
+    let mut game = new(3, 4, 12, &AROUND_1_1);
+    game.open(1, 1);
+    game.flag(0, 0);
+    game
+}
+
+fn eight_flags() -> Told {
+    let game = ring_of_mines();
+    position(
+        "P: 3x4, all eight around (1,1) mined, mode 12; open (1,1), flag (0,0)",
+        format!("{}, flag {}, rce {}", game.rows(), game.board.flag, game.board.rce),
+        "11 11 11 10 / 11 8 11 10 / 11 11 11 10, flag 8, rce 1",
+    )
+}
+
+fn eight_is_never_chorded() -> Told {
+    position("P: the same board; mr (1,1)", ring_of_mines().step(MR, 1, 1), 0)
+}
+
+fn negative_remainder() -> Told {
+    let mut game = new(1, 4, 12, &[(0, 0)]);
+    game.open(0, 1);
+    game.flag(0, 2);
+    game.flag(0, 0);
+    position("P: 1x4, mine (0,0), mode 12; open (0,1), flag (0,2), flag (0,0)", game.rows(), "11 1 11 10")
+}
+
+fn pointers() -> Told {
+    let mut game = new(1, 3, 0, &[(0, 1)]);
+    let answers = [(1, 3), (0, 3), (1, 2)].map(|(row, column)| game.step(MV, row, column));
+    position("P: 1x3 pointers (1,3), (0,3), (1,2)", format!("{answers:?}"), "[0, 30, 30]")
+}
+
+fn r_in_up_down_not_flag() -> Told {
+    let mut game = new(1, 3, 0, &[(0, 1)]);
+    game.open(0, 0);
+    game.step(RC, 0, 0);
+    let before = (game.state(), game.board.mouse_state);
+    let answer = game.step(R, 0, 0);
+    let after = (game.state(), game.board.mouse_state);
+    position(
+        "P: Playing, UpDownNotFlag, r",
+        format!("{answer} {before:?} {after:?}"),
+        "0 (Playing, UpDownNotFlag) (Playing, UpDownNotFlag)",
+    )
+}
+
+fn one_safe_cell() -> Told {
+    let mut game = new(1, 1, 0, &[]);
+    game.open(0, 0);
+    position("P: 1x1 safe, open", format!("{:?}", game.state()), "Win")
+}
+
+fn one_mine() -> Told {
+    position("P: 1x1 mine", setup_answer(1, 1, &[(0, 0)]), 24)
+}
+
+fn largest_size() -> Told {
+    position("Run: 64x32", setup_answer(64, 32, &[]), 0)
+}
+
+fn size_too_large() -> Told {
+    position("Run: 64x33", setup_answer(64, 33, &[]), 20)
+}
+
+fn last_event() -> Told {
+    let mut game = new(1, 1, 0, &[]);
+    for _ in 1..MOST_EVENTS {
+        game.step(MV, 0, 0);
+    }
+    let answers = [game.step(MV, 0, 0), game.step(MV, 0, 0)];
+    position("Run: event 65,535 and the next", format!("{answers:?}"), "[0, 31]")
+}
+
+fn pf_while_playing() -> Told {
+    let mut game = new(1, 3, 0, &[(0, 1)]);
+    game.open(0, 0);
+    position("Run: pf while Playing", format!("{:?} {}", game.state(), game.step(PF, 0, 2)), "Playing 33")
+}
+
+/// Why 30 and 32 stand before the Rust's step: it panics there.
+fn panics() -> Told {
+    let usual = take_hook();
+    set_hook(Box::new(|_| ()));
+    let seen = [("mv", (0, 3)), ("pf", (1, 3)), ("pf", (0, 2))].map(|(event, pointer)| {
+        let mut game = new(1, 3, 0, &[(0, 1)]);
+        game.flag(0, 2);
+        catch_unwind(move || game.board.step(event, pointer)).is_err()
+    });
+    set_hook(usual);
+    position(
+        "Run: the Rust panics at a pointer of 30, pf off the board, pf on a flag",
+        format!("{seen:?}"),
+        "[true, true, true]",
+    )
+}
+
+fn new(rows: usize, columns: usize, mode: u16, mines: &[(usize, usize)]) -> Game {
+    Game::setup(Settings { rows, columns, mode, question: false }, mines).expect("a lawful setup")
+}
+
+fn setup_answer(rows: usize, columns: usize, mines: &[(usize, usize)]) -> u16 {
+    Game::setup(Settings { rows, columns, mode: 0, question: false }, mines).err().unwrap_or(0)
+}
+
+impl Game {
+    fn open(&mut self, row: usize, column: usize) {
+        self.step(LC, row, column);
+        self.step(LR, row, column);
+    }
+
+    fn flag(&mut self, row: usize, column: usize) {
+        self.step(RC, row, column);
+        self.step(RR, row, column);
+    }
+
+    fn rows(&self) -> String {
+        self.board.game_board.iter().map(|row| spaced(row)).collect::<Vec<_>>().join(" / ")
+    }
+}
