@@ -1,0 +1,92 @@
+-- The theorems on the book: one outcome, what is accepted, a written book reads back to itself, and what an accepted book may be used for.
+use mathlib.Core.Path.{_≡_, _∙_, sym, ap}
+use mathlib.Core.Bool.{true}
+use mathlib.Core.List.{List}
+use Prim.Native.Nat.{ℕ, _*_, _≤_}
+use native.Mathlib.Omega.{arith}
+use borrow.Author.Tests.{leb-true, lt-ltb, eq-eqb}
+use lib.Dec.{leb}
+use lib.ListN.{length}
+use lib.IntN.{ℤ}
+use Rattle.rules.specs.declared.Settings.{Settings}
+use Rattle.rules.specs.declared.Book.{Book}
+use Rattle.rules.specs.Grid.{sizeOk}
+use Rattle.rules.specs.Board.{numberingRefusal}
+use Rattle.rules.specs.Book.{byteAt, bookOf, minesOf, eventsOf}
+use Rattle.book.specs.Parts.{partOf}
+use Rattle.book.specs.Laid.{Laid}
+use Rattle.book.specs.Written.{written, Writable, Bytes, IsWritten, longest}
+use Rattle.book.proofs.Lists.{both}
+use Rattle.book.proofs.Accepting.{accepted-laid, laid-read}
+use Rattle.book.proofs.Writing.{written-read, written-mines, written-events, accepted-writable, accepted-written}
+
+-- ---- any two outcomes that the contracts allow are equal -------------------------------------------------------------------------------
+
+pub read-one : (s : List ℕ) (b b′ : Book) → b ≡ bookOf s → b′ ≡ bookOf s → b ≡ b′
+read-one s b b′ e e′ = e ∙ sym e′
+
+pub part-one : (s : List ℕ) (at n : ℕ) (p p′ : List ℕ) → p ≡ partOf s at n → p′ ≡ partOf s at n → p ≡ p′
+part-one s at n p p′ e e′ = e ∙ sym e′
+
+-- ---- a book is accepted exactly if it is laid out as one, and exactly if it is the written form of one ---------------------------------
+
+pub laid-accepted : (s : List ℕ) → Laid s → bookOf s .number ≡ 0
+laid-accepted s l = ap (λ (b : Book). b .number) (laid-read s l)
+
+pub accepted-is-written : (s : List ℕ) → Bytes s → bookOf s .number ≡ 0 → IsWritten s
+accepted-is-written s bytes e =
+    record {
+      settings = bookOf s .settings;
+      mines = minesOf s (bookOf s);
+      events = eventsOf s (bookOf s);
+      writable = accepted-writable s e;
+      same = accepted-written s e bytes;
+    }
+
+pub written-accepted : (s : List ℕ) → IsWritten s → bookOf s .number ≡ 0
+written-accepted s w =
+    ap (λ (t : List ℕ). bookOf t .number) (w .same)
+    ∙ ap (λ (b : Book). b .number) (written-read (w .settings) (w .mines) (w .events) (w .writable))
+
+-- two readings of one book agree
+pub written-one : (g g′ : Settings) (ms ms′ es es′ : List ℕ) → Writable g ms es → Writable g′ ms′ es′ → written g ms es ≡ written g′ ms′ es′
+    → (g ≡ g′) × ((ms ≡ ms′) × (es ≡ es′))
+written-one g g′ ms ms′ es es′ w w′ e = (
+  sym (ap (λ (b : Book). b .settings) (written-read g ms es w)) ∙ ap (λ (s : List ℕ). bookOf s .settings) e
+      ∙ ap (λ (b : Book). b .settings) (written-read g′ ms′ es′ w′),
+  (
+    sym (written-mines g ms es w) ∙ ap (λ (s : List ℕ). minesOf s (bookOf s)) e ∙ written-mines g′ ms′ es′ w′,
+    sym (written-events g ms es w) ∙ ap (λ (s : List ℕ). eventsOf s (bookOf s)) e ∙ written-events g′ ms′ es′ w′,
+  ),
+)
+
+-- ---- what an accepted book may be used for ---------------------------------------------------------------------------------------------
+
+-- its mine list passes every test of numbering
+pub writable-numbers : (g : Settings) (ms es : List ℕ) (B : List ℤ) → Writable g ms es → length B ≡ g .rows * g .columns
+    → numberingRefusal (g .rows) (g .columns) ms B ≡ 0
+unfolding numberingRefusal
+writable-numbers g ms es B w fits =
+    simp (w .size, eq-eqb _ _ fits, eq-eqb _ _ (w .pairs), w .rising, lt-ltb _ _ (w .fewer))
+
+pub accepted-numbers : (s : List ℕ) (B : List ℤ) → bookOf s .number ≡ 0 → length B ≡ bookOf s .settings .rows * bookOf s .settings .columns
+    → numberingRefusal (bookOf s .settings .rows) (bookOf s .settings .columns) (minesOf s (bookOf s)) B ≡ 0
+accepted-numbers s B e fits =
+    writable-numbers (bookOf s .settings) (minesOf s (bookOf s)) (eventsOf s (bookOf s)) B (accepted-writable s e) fits
+
+-- a size within the limits has at most 2,048 cells
+pub size-cells : (R C : ℕ) → sizeOk R C ≡ true → R * C ≤ 2048
+unfolding sizeOk
+size-cells R C e =
+    let rows = both (leb 1 R) _ e in
+    let tall = both (leb R 64) _ (rows .1) in
+    let columns = both (leb 1 C) _ (tall .1) in
+    let wide = both (leb C 64) _ (columns .1) in
+    leb-true (R * C) 2048 (wide .1)
+
+-- no book is longer than the longest
+pub accepted-longest : (s : List ℕ) → bookOf s .number ≡ 0 → length s ≤ longest
+accepted-longest s e =
+    let l : Laid s = accepted-laid s e in
+    let cells : byteAt s 1 * byteAt s 2 ≤ 2048 = size-cells (byteAt s 1) (byteAt s 2) (l .size) in
+    omega (arith, l .ends, l .fewer, l .few)

@@ -1,0 +1,6 @@
+pub mod Lists
+pub mod Reading
+pub mod Accepting
+pub mod Writing
+pub mod Book
+pub mod Prefix

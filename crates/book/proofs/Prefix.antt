@@ -1,0 +1,160 @@
+-- Nothing past the longest book is read: a longer byte string and its first bytes get the same answer, so that a reader may stop there.
+use mathlib.Core.Path.{_≡_, _∙_, sym, ap, refl}
+use mathlib.Core.Bool.{Bool, true, false}
+use mathlib.Core.List.{List}
+use Prim.Native.Nat.{ℕ, zero, suc, _+_, _*_, _<_, _≤_}
+use native.Mathlib.Omega.{arith}
+use native.Mathlib.Decide.{decLt}
+use borrow.Author.Tests.{le-leb, lt-leb, ne-eqb}
+use lib.Dec.{leb, eqb}
+use lib.ListN.{length, take, drop}
+use lib.Seq.{length-take-le, take-all, getD-take, getD-drop}
+use Rattle.rules.specs.declared.Settings.{Settings}
+use Rattle.rules.specs.declared.Book.{Book}
+use Rattle.rules.specs.Grid.{sizeOk}
+use Rattle.rules.specs.Board.{mineOk}
+use Rattle.rules.specs.Calls.{modeOk}
+use Rattle.rules.specs.Book.{refusedBook, orElse, reaches, byteAt, wordAt, settingsAt, maxEvents, minesFrom, minesSection, eventsFrom, bookOf}
+use Rattle.rules.specs.Printout.{printoutBy, printoutOf}
+use Rattle.book.specs.Written.{longest}
+use Rattle.book.proofs.Reading.{mines-too-many, mines-counted}
+use Rattle.book.proofs.Writing.{mine-same}
+use Rattle.book.proofs.Book.{size-cells, accepted-longest}
+
+or-else-same : (n place : ℕ) (t t′ : Bool) {rest rest′ : Book} → t ≡ t′ → (t′ ≡ true → rest ≡ rest′)
+    → orElse n place t rest ≡ orElse n place t′ rest′
+or-else-same n place true true e same = same refl
+or-else-same n place false false e same = refl
+or-else-same n place true false e same = let z : _≡_ {A = ℕ} 0 1 = cc in absurd (omega arith)
+or-else-same n place false true e same = let z : _≡_ {A = ℕ} 0 1 = cc in absurd (omega arith)
+
+module _ (s : List ℕ) (at : ℕ) (g : Settings) (minesAt n : ℕ) where
+  events-too-many : at + 2 ≤ length s → maxEvents < wordAt s at → eventsFrom s at g minesAt n ≡ refusedBook 44 at
+  unfolding eventsFrom
+  events-too-many h q = simp (le-leb _ _ h, lt-leb _ _ q)
+
+  events-left-over : wordAt s at ≤ maxEvents → at + 2 + 3 * wordAt s at < length s
+      → eventsFrom s at g minesAt n ≡ refusedBook 43 (at + 2 + 3 * wordAt s at)
+  unfolding eventsFrom
+  events-left-over few h =
+      let counted : at + 2 ≤ length s = omega arith in
+      let there : at + 2 + 3 * wordAt s at ≤ length s = omega arith in
+      simp (le-leb _ _ counted, le-leb _ _ few, le-leb _ _ there, lt-leb _ _ h)
+
+module _ (s : List ℕ) (n : ℕ) (long : longest < n) (more : n ≤ length s) where
+  cut : List ℕ
+  cut = take n s
+
+  cut-length : length cut ≡ n
+  unfolding cut
+  cut-length = length-take-le n s more
+
+  byte-same : (i : ℕ) → i < n → byteAt cut i ≡ byteAt s i
+  unfolding cut
+  byte-same i h = getD-take n s i 0 h
+
+  word-same : (at : ℕ) → at + 1 < n → wordAt cut at ≡ wordAt s at
+  word-same at h =
+      let low : byteAt cut at ≡ byteAt s at = byte-same at (omega arith) in
+      let high : byteAt cut (at + 1) ≡ byteAt s (at + 1) = byte-same (at + 1) h in
+      cc
+
+  reaches-same : (end : ℕ) {rest rest′ : Book} → end ≤ n → rest ≡ rest′ → reaches cut end rest ≡ reaches s end rest′
+  reaches-same end h e =
+      let short : end ≤ length cut = omega (arith, cut-length) in
+      let whole : end ≤ length s = omega arith in
+      simp (le-leb _ _ short, le-leb _ _ whole) e
+
+  events-same : (at : ℕ) (g : Settings) (minesAt k : ℕ) → at + 2 + 3 * maxEvents ≤ longest
+      → eventsFrom cut at g minesAt k ≡ eventsFrom s at g minesAt k
+  events-same at g minesAt k h = either (decLt maxEvents (wordAt s at))
+    where
+      counts : wordAt cut at ≡ wordAt s at
+      counts = word-same at (omega arith)
+
+      either : Dec (maxEvents < wordAt s at) → eventsFrom cut at g minesAt k ≡ eventsFrom s at g minesAt k
+      either (yes q) =
+          events-too-many cut at g minesAt k (omega (arith, cut-length)) (omega (arith, counts))
+          ∙ sym (events-too-many s at g minesAt k (omega arith) q)
+      either (no q) =
+          events-left-over cut at g minesAt k (omega (arith, counts)) (omega (arith, cut-length, counts))
+          ∙ ap (λ (w : ℕ). refusedBook 43 (at + 2 + 3 * w)) counts ∙ sym (events-left-over s at g minesAt k (omega arith) (omega arith))
+
+  mine-cut : (R C k : ℕ) → 9 + 2 * k ≤ n → mineOk R C (drop 7 cut) k ≡ mineOk R C (drop 7 s) k
+  mine-cut R C k h =
+      mine-same R C (drop 7 cut) (drop 7 s) (suc k)
+      (λ j q. getD-drop 7 cut j 0 ∙ byte-same (7 + j) (omega arith) ∙ sym (getD-drop 7 s j 0)) k (omega arith)
+
+  list-same : (R C left k : ℕ) (rest rest′ : Book) → rest ≡ rest′ → 7 + 2 * (k + left) ≤ n
+      → minesFrom cut R C 7 k left rest ≡ minesFrom s R C 7 k left rest′
+  unfolding minesFrom
+  list-same R C zero k rest rest′ e h = e
+  list-same R C (suc left) k rest rest′ e h =
+      reaches-same (7 + 2 * k + 2) (omega arith)
+      (or-else-same 42 (7 + 2 * k) (mineOk R C (drop 7 cut) k) (mineOk R C (drop 7 s) k) (mine-cut R C k (omega arith))
+      (λ _. list-same R C left (suc k) rest rest′ e (omega arith)))
+
+  section-same : (g : Settings) → g .rows * g .columns ≤ 2048 → minesSection cut 5 g ≡ minesSection s 5 g
+  section-same g small = either (decLt (wordAt s 5) (g .rows * g .columns))
+    where
+      counts : wordAt cut 5 ≡ wordAt s 5
+      counts = word-same 5 (omega arith)
+
+      either : Dec (wordAt s 5 < g .rows * g .columns) → minesSection cut 5 g ≡ minesSection s 5 g
+      either (yes q) =
+          mines-counted cut 5 g 0 0 (omega (arith, cut-length)) (omega (arith, counts))
+          ∙ ap (λ (w : ℕ). minesFrom cut (g .rows) (g .columns) 7 0 w (eventsFrom cut (7 + 2 * w) g 7 w)) counts
+          ∙ list-same (g .rows) (g .columns) (wordAt s 5) 0 _ _ (events-same (7 + 2 * wordAt s 5) g 7 (wordAt s 5) (omega arith)) (omega arith)
+          ∙ sym (mines-counted s 5 g 0 0 (omega arith) q)
+      either (no q) =
+          mines-too-many cut 5 g (wordAt cut 5) (g .rows * g .columns) (omega (arith, cut-length)) refl refl (omega (arith, counts))
+          ∙ sym (mines-too-many s 5 g (wordAt s 5) (g .rows * g .columns) (omega arith) refl refl (omega arith))
+
+  settings-same : settingsAt cut ≡ settingsAt s
+  settings-same =
+      let rows : byteAt cut 1 ≡ byteAt s 1 = byte-same 1 (omega arith) in
+      let columns : byteAt cut 2 ≡ byteAt s 2 = byte-same 2 (omega arith) in
+      let mode : byteAt cut 3 ≡ byteAt s 3 = byte-same 3 (omega arith) in
+      let question : byteAt cut 4 ≡ byteAt s 4 = byte-same 4 (omega arith) in
+      cc
+
+  book-same : bookOf cut ≡ bookOf s
+  unfolding bookOf
+  book-same =
+      let rows : byteAt cut 1 ≡ byteAt s 1 = byte-same 1 (omega arith) in
+      let columns : byteAt cut 2 ≡ byteAt s 2 = byte-same 2 (omega arith) in
+      let sizes : sizeOk (byteAt cut 1) (byteAt cut 2) ≡ sizeOk (byteAt s 1) (byteAt s 2) = cc in
+      reaches-same 1 (omega arith)
+      (or-else-same 41 0 (eqb (byteAt cut 0) 4) (eqb (byteAt s 0) 4) (ap (λ (b : ℕ). eqb b 4) (byte-same 0 (omega arith)))
+      (λ _. reaches-same 5 (omega arith)
+      (or-else-same 41 4 (leb (byteAt cut 4) 1) (leb (byteAt s 4) 1) (ap (λ (b : ℕ). leb b 1) (byte-same 4 (omega arith)))
+      (λ _. or-else-same 20 1 (sizeOk (byteAt cut 1) (byteAt cut 2)) (sizeOk (byteAt s 1) (byteAt s 2)) sizes
+      (λ size. or-else-same 25 3 (modeOk (byteAt cut 3)) (modeOk (byteAt s 3)) (ap modeOk (byte-same 3 (omega arith)))
+      (λ _. ap (λ (g : Settings). minesSection cut 5 g) settings-same
+      ∙ section-same (settingsAt s) (size-cells (byteAt s 1) (byteAt s 2) size)))))))
+
+-- the first n bytes, where n is more than the longest book has, get the answer of all
+pub prefix-read : (s : List ℕ) (n : ℕ) → longest < n → bookOf (take n s) ≡ bookOf s
+unfolding cut
+prefix-read s n long = either (decLt n (length s))
+  where
+    either : Dec (n < length s) → bookOf (take n s) ≡ bookOf s
+    either (yes q) = book-same s n long (omega arith)
+    either (no q) = ap bookOf (take-all n s (omega arith))
+
+-- a refused book prints nothing of its bytes
+refused-printout : (s s′ : List ℕ) (b : Book) → (b .number ≡ 0 → ⊥) → printoutBy s b ≡ printoutBy s′ b
+unfolding printoutBy
+refused-printout s s′ b h = simp (ne-eqb _ _ h)
+
+pub prefix-printout : (s : List ℕ) (n : ℕ) → longest < n → printoutOf (take n s) ≡ printoutOf s
+unfolding printoutOf
+prefix-printout s n long = either (decLt n (length s))
+  where
+    too-long : n < length s → bookOf s .number ≡ 0 → ⊥
+    too-long q e = omega (arith, accepted-longest s e)
+
+    either : Dec (n < length s) → printoutBy (take n s) (bookOf (take n s)) ≡ printoutBy s (bookOf s)
+    either (yes q) =
+        ap (λ (b : Book). printoutBy (take n s) b) (prefix-read s n long) ∙ refused-printout (take n s) s (bookOf s) (too-long q)
+    either (no q) = ap (λ (t : List ℕ). printoutBy t (bookOf t)) (take-all n s (omega arith))

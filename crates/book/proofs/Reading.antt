@@ -1,0 +1,209 @@
+-- What the reader's functions need of the format: bounds of products of bytes, parts, and the mines section by cases.
+use mathlib.Core.Path.{_≡_, _∙_, sym, ap, refl}
+use mathlib.Core.Bool.{true, false}
+use mathlib.Core.List.{List, []}
+use Prim.Native.Nat.{ℕ, zero, suc, _+_, _-_, _*_, _<_, _≤_}
+use native.Mathlib.Nat.{mul-le-mul}
+use native.Mathlib.Numerals.{add-one}
+use native.Mathlib.Omega.{arith}
+use borrow.Author.Tests.{lt-ltb, le-ltb, le-leb, lt-leb, eq-eqb}
+use lib.Dec.{leb}
+use lib.ListN.{length, take, drop, getD}
+use lib.Seq.{getD-drop}
+use Rattle.rules.specs.declared.Settings.{Settings}
+use Rattle.rules.specs.declared.Book.{Book}
+use Rattle.rules.specs.Grid.{sizeOk, cellOf}
+use Rattle.rules.specs.Board.{mineOk, mineCell, rises}
+use Rattle.rules.specs.Calls.{modeOk}
+use Rattle.rules.specs.Book.{refusedBook, byteAt, wordAt, settingsAt, minesFrom, minesSection, eventsFrom, bookOf}
+use Rattle.book.specs.Parts.{mineFits, partOf}
+
+pub bytes-product : (a b : ℕ) → a < 256 → b < 256 → a * b ≤ 65025
+bytes-product a b ha hb = mul-le-mul {n₁ = a} {m₁ = b} {n₂ = 255} {m₂ = 255} (omega arith) (omega arith)
+
+pub product-same : {a b r c : ℕ} → a ≡ r → b ≡ c → a * b ≡ r * c
+product-same e d = cc
+
+-- ---- parts -----------------------------------------------------------------------------------------------------------------------------
+
+module _ (s : List ℕ) (at n : ℕ) where
+  pub part-none : length s < at + n → partOf s at n ≡ []
+  unfolding partOf
+  part-none h = simp (lt-leb _ _ h)
+
+  pub part-there : at + n ≤ length s → partOf s at n ≡ take n (drop at s)
+  unfolding partOf
+  part-there h = simp (le-leb _ _ h)
+
+  pub part-cut : at + n ≤ length s → take (at + n - at) (drop at s) ≡ partOf s at n
+  part-cut h =
+      let e : at + n - at ≡ n = omega arith in
+      ap (λ (k : ℕ). take k (drop at s)) e ∙ sym (part-there h)
+
+-- ---- the mines section -----------------------------------------------------------------------------------------------------------------
+
+-- the first cell that the n-th mine may have
+unfoldable pub nextCell : ℕ → List ℕ → ℕ → ℕ
+nextCell C ms zero = 0
+nextCell C ms (suc n) = suc (mineCell C ms n)
+
+module _ (R C : ℕ) (s : List ℕ) (at : ℕ) where
+  rises-by-next : (n : ℕ) → rises C (drop at s) n ≡ leb (nextCell C (drop at s) n) (mineCell C (drop at s) n)
+  unfolding nextCell
+  rises-by-next zero = sym (le-leb 0 (mineCell C (drop at s) 0) (omega arith))
+  rises-by-next (suc n) = refl
+
+  -- the test of one mine, from its two bytes at their place and the first cell that it may have
+  pub mine-by-place : (n place next row column : ℕ) → place ≡ at + 2 * n → next ≡ nextCell C (drop at s) n
+      → row ≡ getD s place 0 → column ≡ getD s (place + 1) 0 → mineFits R C row column next ≡ mineOk R C (drop at s) n
+  unfolding mineFits mineOk
+  mine-by-place n place next row column hp hn hr hc =
+      let er : row ≡ getD (drop at s) (2 * n) 0 = hr ∙ ap (λ (i : ℕ). getD s i 0) hp ∙ sym (getD-drop at s (2 * n) 0) in
+      let ec : column ≡ getD (drop at s) (2 * n + 1) 0 = hc ∙ ap (λ (i : ℕ). getD s i 0) (omega arith) ∙ sym (getD-drop at s (2 * n + 1) 0) in
+      simp (er, ec, hn, rises-by-next)
+
+  pub next-by-place : (n place row column k : ℕ) → place ≡ at + 2 * n → row ≡ getD s place 0 → column ≡ getD s (place + 1) 0
+      → k ≡ cellOf C row column → k + 1 ≡ nextCell C (drop at s) (n + 1)
+  unfolding nextCell
+  next-by-place n place row column k hp hr hc hk =
+      let er : row ≡ getD (drop at s) (2 * n) 0 = hr ∙ ap (λ (i : ℕ). getD s i 0) hp ∙ sym (getD-drop at s (2 * n) 0) in
+      let ec : column ≡ getD (drop at s) (2 * n + 1) 0 = hc ∙ ap (λ (i : ℕ). getD s i 0) (omega arith) ∙ sym (getD-drop at s (2 * n + 1) 0) in
+      let ek : k ≡ mineCell C (drop at s) n = simp (hk, er, ec) in
+      let one : k + 1 ≡ nextCell C (drop at s) (suc n) = next-suc (mineCell C (drop at s) n) k ek in
+      one ∙ ap (λ (i : ℕ). nextCell C (drop at s) i) (sym (add-one n))
+    where
+      next-suc : (m j : ℕ) → j ≡ m → j + 1 ≡ suc m
+      next-suc m j e = omega arith
+
+module _ (s : List ℕ) (R C at n left : ℕ) (rest : Book) where
+  mines-short : length s < at + 2 * n + 2 → minesFrom s R C at n (suc left) rest ≡ refusedBook 40 (length s)
+  unfolding minesFrom
+  mines-short h = simp (lt-leb _ _ h)
+
+  mines-wrong : at + 2 * n + 2 ≤ length s → mineOk R C (drop at s) n ≡ false
+      → minesFrom s R C at n (suc left) rest ≡ refusedBook 42 (at + 2 * n)
+  unfolding minesFrom
+  mines-wrong h e = simp (le-leb _ _ h, e)
+
+  pub mines-right : at + 2 * n + 2 ≤ length s → mineOk R C (drop at s) n ≡ true
+      → minesFrom s R C at n (suc left) rest ≡ minesFrom s R C at (suc n) left rest
+  unfolding minesFrom
+  mines-right h e = simp (le-leb _ _ h, e)
+
+pub mines-none : (s : List ℕ) (R C at n : ℕ) (rest : Book) → minesFrom s R C at n 0 rest ≡ rest
+unfolding minesFrom
+mines-none s R C at n rest = refl
+
+-- n of the mines are read and right, and the reader stands at a place: what is left to read is what the section says
+pub record Reached (s : List ℕ) (at : ℕ) (g : Settings) (mines place next n : ℕ) : Type 0 where
+  pub upto : n ≤ mines
+  pub stands : place ≡ at + 2 + 2 * n
+  pub within : place ≤ length s
+  pub least : next ≡ nextCell (g .columns) (drop (at + 2) s) n
+  pub same :
+      minesSection s at g
+      ≡ minesFrom s (g .rows) (g .columns) (at + 2) n (mines - n) (eventsFrom s (at + 2 + 2 * mines) g (at + 2) mines)
+
+module _ (s : List ℕ) (at : ℕ) (g : Settings) (mines cells : ℕ) where
+  pub mines-short-count : length s < at + 2 → minesSection s at g ≡ refusedBook 40 (length s)
+  unfolding minesSection
+  mines-short-count h = simp (lt-leb _ _ h)
+
+  pub mines-too-many : at + 2 ≤ length s → mines ≡ wordAt s at → cells ≡ g .rows * g .columns → cells ≤ mines
+      → minesSection s at g ≡ refusedBook 24 at
+  unfolding minesSection
+  mines-too-many h e d q =
+      let no : g .rows * g .columns ≤ wordAt s at = omega arith in
+      simp (le-leb _ _ h, le-ltb _ _ no)
+
+  pub mines-counted : at + 2 ≤ length s → wordAt s at < g .rows * g .columns
+      → minesSection s at g
+      ≡ minesFrom s (g .rows) (g .columns) (at + 2) 0 (wordAt s at) (eventsFrom s (at + 2 + 2 * wordAt s at) g (at + 2) (wordAt s at))
+  unfolding minesSection
+  mines-counted h q = simp (le-leb _ _ h, lt-ltb _ _ q)
+
+  pub reached-start : at + 2 ≤ length s → mines ≡ wordAt s at → cells ≡ g .rows * g .columns → mines < cells
+      → Reached s at g mines (at + 2) 0 0
+  unfolding minesSection nextCell
+  reached-start h e d q =
+      let fewer : wordAt s at < g .rows * g .columns = omega arith in
+      let all : wordAt s at - 0 ≡ wordAt s at = omega arith in
+      record {
+        upto = omega arith;
+        stands = omega arith;
+        within = h;
+        least = refl;
+        same = simp (le-leb _ _ h, lt-ltb _ _ fewer, e, all);
+      }
+
+module _ (s : List ℕ) (at : ℕ) (g : Settings) (mines place next n : ℕ) (now : Reached s at g mines place next n) where
+  rest : Book
+  rest = eventsFrom s (at + 2 + 2 * mines) g (at + 2) mines
+
+  pub reached-done : mines ≤ n → minesSection s at g ≡ eventsFrom s place g (at + 2) mines
+  unfolding rest
+  reached-done h =
+      let none : mines - n ≡ 0 = omega arith in
+      let there : at + 2 + 2 * mines ≡ place = omega (arith, now .stands, now .upto) in
+      now .same ∙ ap (λ (k : ℕ). minesFrom s (g .rows) (g .columns) (at + 2) n k rest) none
+      ∙ mines-none s (g .rows) (g .columns) (at + 2) n rest ∙ ap (λ (k : ℕ). eventsFrom s k g (at + 2) mines) there
+
+  one-more : n < mines → minesSection s at g ≡ minesFrom s (g .rows) (g .columns) (at + 2) n (suc (mines - (n + 1))) rest
+  unfolding rest
+  one-more h =
+      let e : mines - n ≡ suc (mines - (n + 1)) = omega arith in
+      now .same ∙ ap (λ (k : ℕ). minesFrom s (g .rows) (g .columns) (at + 2) n k rest) e
+
+  pub reached-short : n < mines → length s < place + 2 → minesSection s at g ≡ refusedBook 40 (length s)
+  reached-short h q = one-more h ∙ mines-short s (g .rows) (g .columns) (at + 2) n (mines - (n + 1)) rest (omega (arith, now .stands))
+
+  module _ (row column : ℕ) (h : n < mines) (fits : place + 2 ≤ length s) (hr : row ≡ getD s place 0) (hc : column ≡ getD s (place + 1) 0) where
+    there : at + 2 + 2 * n + 2 ≤ length s
+    there = omega (arith, now .stands)
+
+    tested : mineOk (g .rows) (g .columns) (drop (at + 2) s) n ≡ mineFits (g .rows) (g .columns) row column next
+    tested = sym (mine-by-place (g .rows) (g .columns) s (at + 2) n place next row column (now .stands) (now .least) hr hc)
+
+    pub reached-wrong : mineFits (g .rows) (g .columns) row column next ≡ false → minesSection s at g ≡ refusedBook 42 place
+    reached-wrong e =
+        one-more h ∙ mines-wrong s (g .rows) (g .columns) (at + 2) n (mines - (n + 1)) rest there (tested ∙ e)
+        ∙ ap (λ (p : ℕ). refusedBook 42 p) (sym (now .stands))
+
+    pub reached-more : (k : ℕ) → mineFits (g .rows) (g .columns) row column next ≡ true → k ≡ cellOf (g .columns) row column
+        → Reached s at g mines (place + 2) (k + 1) (n + 1)
+    unfolding rest
+    reached-more k e d =
+        record {
+          upto = omega arith;
+          stands = omega (arith, now .stands);
+          within = fits;
+          least = next-by-place (g .rows) (g .columns) s (at + 2) n place row column k (now .stands) hr hc d;
+          same =
+              one-more h ∙ mines-right s (g .rows) (g .columns) (at + 2) n (mines - (n + 1)) rest there (tested ∙ e)
+              ∙ ap (λ (i : ℕ). minesFrom s (g .rows) (g .columns) (at + 2) i (mines - (n + 1)) rest) (sym (add-one n));
+        }
+
+-- ---- the settings section, once its bytes are there ------------------------------------------------------------------------------------
+
+module _ (s : List ℕ) (four : byteAt s 0 ≡ 4) (five : 5 ≤ length s) where
+  some : 1 ≤ length s
+  some = omega arith
+
+  pub question-wrong : leb (byteAt s 4) 1 ≡ false → bookOf s ≡ refusedBook 41 4
+  unfolding bookOf
+  question-wrong question = simp (le-leb _ _ some, eq-eqb _ _ four, le-leb _ _ five, question)
+
+  pub size-wrong : leb (byteAt s 4) 1 ≡ true → sizeOk (byteAt s 1) (byteAt s 2) ≡ false → bookOf s ≡ refusedBook 20 1
+  unfolding bookOf
+  size-wrong question size = simp (le-leb _ _ some, eq-eqb _ _ four, le-leb _ _ five, question, size)
+
+  pub mode-wrong : leb (byteAt s 4) 1 ≡ true → sizeOk (byteAt s 1) (byteAt s 2) ≡ true → modeOk (byteAt s 3) ≡ false
+      → bookOf s ≡ refusedBook 25 3
+  unfolding bookOf
+  mode-wrong question size mode = simp (le-leb _ _ some, eq-eqb _ _ four, le-leb _ _ five, question, size, mode)
+
+  -- what is left to read is the mines section
+  pub settings-right : leb (byteAt s 4) 1 ≡ true → sizeOk (byteAt s 1) (byteAt s 2) ≡ true → modeOk (byteAt s 3) ≡ true
+      → bookOf s ≡ minesSection s 5 (settingsAt s)
+  unfolding bookOf
+  settings-right question size mode = simp (le-leb _ _ some, eq-eqb _ _ four, le-leb _ _ five, question, size, mode)

@@ -1,0 +1,250 @@
+// The reader of the game book: what a byte string says as a book, and the parts of it that hold the mines and the event records.
+// The contracts cite the format of rules/specs/Book.antt and the parts of specs/Parts.antt; every function takes every byte string.
+ghost use mathlib.Core.Path.{_≡_};
+ghost use Prim.Native.Nat.{_<_, _≤_, _+_, _*_};
+ghost use lib.ListN.{length};
+ghost use Rattle.rules.specs.Grid.{sizeOk, cellOf};
+ghost use Rattle.rules.specs.Calls.{modeOk};
+ghost use Rattle.rules.specs.Book.{wordAt, refusedBook, bookEnds, eventsFrom, minesSection, bookOf};
+ghost use Rattle.book.specs.Parts.{mineFits, partOf};
+use rules::Book;
+use rules::Settings;
+
+// The most events a book may have.
+pub const MOST: usize = 8192;
+
+// The bytes of the longest book: settings, at most 2,047 mines, events.
+pub const LONGEST: usize = 5 + (2 + 2 * 2047) + (2 + 3 * MOST);
+
+fn wide(x: u8) -> usize
+    ensures { λ r. ⌜ (r ≡ x) × (r < 256) ⌝ }
+{
+    x as usize
+}
+
+// A two-byte count, low byte first.
+fn word_at(s: &[u8], at: usize) -> usize
+    requires { ⌜ at + 2 ≤ length (now s) ⌝ }
+    ensures { λ r. ⌜ (r ≡ wordAt (now (s .entry)) at) × (r < 65536) ⌝ }
+{
+    wide(s[at]) + 256 * wide(s[at + 1])
+}
+
+fn refused(number: u16, place: usize) -> Book
+    ensures { λ r. ⌜ r ≡ refusedBook number place ⌝ }
+{
+    let settings = Settings {
+        rows: 0,
+        columns: 0,
+        mode: 0,
+        question: false,
+    };
+    Book {
+        number,
+        place,
+        settings,
+        mines_at: 0,
+        mines: 0,
+        events_at: 0,
+        events: 0,
+    }
+}
+
+fn size_ok(rows: u8, columns: u8) -> bool
+    ensures { λ r. ⌜ r ≡ sizeOk rows columns ⌝ }
+{
+    if rows < 1 {
+        return false;
+    }
+    if 64 < rows {
+        return false;
+    }
+    if columns < 1 {
+        return false;
+    }
+    if 64 < columns {
+        return false;
+    }
+    wide(rows) * wide(columns) <= 2048
+}
+
+fn mode_ok(mode: u8) -> bool
+    ensures { λ r. ⌜ r ≡ modeOk mode ⌝ }
+{
+    if mode <= 5 {
+        return true;
+    }
+    if mode < 11 {
+        return false;
+    }
+    mode <= 16
+}
+
+// The number of a cell.
+fn cell(row: u8, column: u8, columns: u8) -> usize
+    ensures { λ r. ⌜ (r ≡ cellOf columns row column) × (r < 65536) ⌝ }
+{
+    wide(row) * wide(columns) + wide(column)
+}
+
+// Is a mine on the board, and its cell not before `next`?
+fn mine_fits(row: u8, column: u8, rows: u8, columns: u8, next: usize) -> bool
+    ensures { λ r. ⌜ r ≡ mineFits rows columns row column next ⌝ }
+{
+    if rows <= row {
+        return false;
+    }
+    if columns <= column {
+        return false;
+    }
+    next <= cell(row, column, columns)
+}
+
+// The book `b`, whose last section ends at `end`, unless bytes are left over.
+fn ended(s: &[u8], end: usize, b: Book) -> Book
+    ensures { λ r. ⌜ r ≡ bookEnds (now (s .entry)) end b ⌝ }
+{
+    if end < s.len() {
+        return refused(43, end);
+    }
+    b
+}
+
+// The events section at `at`, and the end of the book.
+fn read_events(s: &[u8], at: usize, settings: Settings, mines_at: usize, mines: usize) -> Book
+    requires { ⌜ at ≤ length (now s) ⌝ }
+    ensures { λ r. ⌜ r ≡ eventsFrom (now (s .entry)) at settings «mines_at» mines ⌝ }
+{
+    if s.len() < at + 2 {
+        return refused(40, s.len());
+    }
+    let n = word_at(s, at);
+    if MOST < n {
+        return refused(44, at);
+    }
+    let first = at + 2;
+    let end = first + 3 * n;
+    if s.len() < end {
+        return refused(40, s.len());
+    }
+    let b = Book {
+        number: 0,
+        place: 0,
+        settings,
+        mines_at,
+        mines,
+        events_at: first,
+        events: n,
+    };
+    ended(s, end, b)
+}
+
+// The mines section at `at`, and what follows it. Each mine's two bytes are taken before they are tested.
+fn read_mines(s: &[u8], at: usize, settings: Settings) -> Book
+    requires { ⌜ at ≤ length (now s) ⌝ }
+    ensures { λ r. ⌜ r ≡ minesSection (now (s .entry)) at settings ⌝ }
+{
+    let rows = settings.rows;
+    let columns = settings.columns;
+    if s.len() < at + 2 {
+        return refused(40, s.len());
+    }
+    let mines = word_at(s, at);
+    if wide(rows) * wide(columns) <= mines {
+        return refused(24, at);
+    }
+    let from = at + 2;
+    let mut place = from;
+    let mut next = 0usize;
+    let mut n = 0usize;
+    while n < mines {
+        if s.len() < place + 2 {
+            return refused(40, s.len());
+        }
+        let row = s[place];
+        let column = s[place + 1];
+        if !mine_fits(row, column, rows, columns, next) {
+            return refused(42, place);
+        }
+        next = cell(row, column, columns) + 1;
+        place += 2;
+        n += 1;
+    }
+    read_events(s, place, settings, from, mines)
+}
+
+// What a byte string says as a book, or its first fault with the byte place.
+pub fn read_book(s: &[u8]) -> Book
+    ensures { λ r. ⌜ r ≡ bookOf (now (s .entry)) ⌝ }
+{
+    if s.len() < 1 {
+        return refused(40, s.len());
+    }
+    if s[0] != 4 {
+        return refused(41, 0);
+    }
+    if s.len() < 5 {
+        return refused(40, s.len());
+    }
+    let rows = s[1];
+    let columns = s[2];
+    let mode = s[3];
+    let question = s[4];
+    let question_right = question <= 1;
+    let size_right = size_ok(rows, columns);
+    let mode_right = mode_ok(mode);
+    if !question_right {
+        return refused(41, 4);
+    }
+    if !size_right {
+        return refused(20, 1);
+    }
+    if !mode_right {
+        return refused(25, 3);
+    }
+    let settings = Settings {
+        rows,
+        columns,
+        mode,
+        question: question == 1,
+    };
+    read_mines(s, 5, settings)
+}
+
+// `n` bytes of `s` from `at` on, without a copy; none where they do not fit.
+fn part(s: &[u8], at: usize, n: usize) -> &[u8]
+    ensures { λ r. ⌜ now r ≡ partOf (now (s .entry)) at n ⌝ }
+{
+    if s.len() < at {
+        return &s[0..0];
+    }
+    if s.len() - at < n {
+        return &s[0..0];
+    }
+    let end = at + n;
+    &s[at..end]
+}
+
+// The mine list of a book, a row byte and a column byte for each mine; none where the numbers of `b` do not fit `s`.
+pub fn mines(s: &[u8], b: Book) -> &[u8]
+    ensures { λ r. ⌜ now r ≡ partOf (now (s .entry)) (b .«mines_at») (2 * b .mines) ⌝ }
+{
+    let at = b.mines_at;
+    let n = b.mines;
+    if s.len() / 2 < n {
+        return &s[0..0];
+    }
+    part(s, at, 2 * n)
+}
+
+// The event records of a book, three bytes each; none where the numbers of `b` do not fit `s`.
+pub fn events(s: &[u8], b: Book) -> &[u8]
+    ensures { λ r. ⌜ now r ≡ partOf (now (s .entry)) (b .«events_at») (3 * b .events) ⌝ }
+{
+    let at = b.events_at;
+    let n = b.events;
+    if s.len() / 3 < n {
+        return &s[0..0];
+    }
+    part(s, at, 3 * n)
+}

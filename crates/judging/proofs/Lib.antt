@@ -1,0 +1,11 @@
+pub mod Lists
+pub mod Turns
+pub mod Judging
+pub mod Reach
+pub mod RustSame
+pub mod Once
+pub mod Marks
+pub mod Walking
+pub mod Tallying
+pub mod Lones
+pub mod Examples

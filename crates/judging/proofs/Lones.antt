@@ -1,0 +1,114 @@
+-- Lone numbers: the ways through the code, and their counts over a chord's cells, a row and the board.
+use mathlib.Core.Path.{_≡_, refl, ap, ap₂, sym, _∙_}
+use mathlib.Core.Bool.{Bool, true, false}
+use mathlib.Core.List.{List, [], _∷_}
+use Prim.Native.Nat.{ℕ, zero, suc, _+_, _*_, _/_, _%_, _<_, _≤_}
+use native.Mathlib.Nat.{suc-mul, mul-le-mul-right}
+use native.Mathlib.Omega.{arith}
+use native.Mathlib.Numerals.{add-one}
+use borrow.Author.Tests.{eq-eqb, ne-eqb, le-leb}
+use lib.Dec.{leb, eqb}
+use lib.ListN.{length, getD}
+use lib.IntN.{ℤ, pos}
+use Rattle.rules.specs.Words.{bit, stackOf, below}
+use Rattle.rules.specs.Grid.{cellOf, around}
+use Rattle.rules.specs.Board.{faceAt, zeroAt, loneAt}
+use Rattle.rules.specs.Judging.{openingsJudged, lones, total3bv}
+use Rattle.cells.specs.Ground.{Mined, faceIs}
+use Rattle.cells.proofs.Words.{bit-le, stack-length}
+use Rattle.cells.proofs.Grid.{cell-back}
+use Rattle.cells.proofs.Face.{face-safe}
+use Rattle.judging.specs.declared.Sum.{Sum}
+use Rattle.judging.specs.Parts.{Tallied, Lone, LoneRow}
+use Rattle.judging.proofs.Judging.{lone-zero, lone-mine, lones-length}
+use Rattle.judging.proofs.Tallying.{tallied-count}
+
+-- ---- one cell ------------------------------------------------------------------------------------------------------------------------
+
+module _ (B : List ℤ) (R C i : ℕ) where
+  pub lone-no-zero : (v : ℕ) → v ≡ faceAt B i → v ≡ 0 → false ≡ loneAt B R C i
+  lone-no-zero v f z = sym (lone-zero B R C i (sym f ∙ z))
+
+  pub lone-no-mine : (v : ℕ) → v ≡ faceAt B i → v ≡ 15 → false ≡ loneAt B R C i
+  lone-no-mine v f z = sym (lone-mine B R C i (sym f ∙ z))
+
+  -- a number: its 0 neighbours decide
+  pub lone-number : Mined B R C → i < R * C → (v : ℕ) → v ≡ faceAt B i → (v ≡ 0 → ⊥) → (v ≡ 15 → ⊥) → (n : ℕ) → n ≡ around R C (faceIs B 0) i → (b : Bool) → eqb n 0 ≡ b → b ≡ loneAt B R C i
+  unfolding loneAt zeroAt
+  lone-number m on v f z k n e b d =
+      let s : faceAt B i ≤ 8 = face-safe (getD B i (pos 0)) (m .valued i (rw (m .long) on)) (λ y. k (f ∙ y)) in
+      let o : 1 ≤ faceAt B i = omega arith in
+      let a : eqb (around R C (faceIs B 0) i) 0 ≡ b = ap (λ (x : ℕ). eqb x 0) (sym e) ∙ d in
+      simp (le-leb _ _ o, le-leb _ _ s, a)
+
+pub lone-cell : (B : List ℤ) (R C i : ℕ) {b : Bool} → b ≡ loneAt B R C (cellOf C (i / C) (i % C)) → b ≡ loneAt B R C i
+lone-cell B R C i e = e ∙ ap (loneAt B R C) (cell-back C i)
+
+-- ---- a chord's cells -----------------------------------------------------------------------------------------------------------------
+
+module _ (B : List ℤ) (R C : ℕ) where
+  pub cells-none : (at : List ℕ) → 0 ≡ lones B R C (stackOf at 0)
+  unfolding lones stackOf
+  cells-none at = refl
+
+  pub cells-more : (at : List ℕ) (k sum q : ℕ) (b : Bool) (n : ℕ) → sum ≡ lones B R C (stackOf at k) → q ≡ getD at k 0 → b ≡ loneAt B R C q → n ≡ bit b → sum + n ≡ lones B R C (stackOf at (k + 1))
+  unfolding lones stackOf
+  cells-more at k sum q b n e d h o = rw add-one (ap₂ (λ (x y : ℕ). x + y) e (o ∙ ap bit (h ∙ ap (loneAt B R C) d)))
+
+  pub cells-few : (at : List ℕ) (k : ℕ) {sum : ℕ} → sum ≡ lones B R C (stackOf at k) → sum ≤ k
+  cells-few at k e = rw e (let a = lones-length B R C (stackOf at k) in let b = stack-length at k in omega arith)
+
+  pub cells-done : (at : List ℕ) (n sum : ℕ) → n ≤ 8 → sum ≡ lones B R C (stackOf at n) → Lone B R C (stackOf at n) sum
+  cells-done at n sum h e = record { answer = e; few = let b = cells-few at n e in omega arith }
+
+  -- ---- a row, and the board ----------------------------------------------------------------------------------------------------------
+
+  pub row-none : (from : ℕ) → LoneRow B R C from 0 0
+  row-none from = record { answer = let e : from + 0 ≡ from = omega arith in rw e (omega arith); few = omega arith }
+
+  more : (n : ℕ) → lones B R C (below (n + 1)) ≡ lones B R C (below n) + bit (loneAt B R C n)
+  unfolding lones below
+  more n = rw add-one refl
+
+  -- one cell more
+  pub row-more : (from n sum : ℕ) (b : Bool) (one : ℕ) → LoneRow B R C from n sum → b ≡ loneAt B R C (from + n) → one ≡ bit b → LoneRow B R C from (n + 1) (sum + one)
+  row-more from n sum b one l h o =
+      let e : from + (n + 1) ≡ from + n + 1 = omega arith in
+      let d : one ≡ bit (loneAt B R C (from + n)) = o ∙ ap bit h in
+      let k = bit-le (loneAt B R C (from + n)) in
+      record { answer = rw (e, more (from + n)) (omega (arith, l .answer)); few = omega (arith, l .few) }
+
+  -- one row more
+  pub board-more : (row sum one : ℕ) → LoneRow B R C 0 (row * C) sum → LoneRow B R C (row * C) C one → LoneRow B R C 0 ((row + 1) * C) (sum + one)
+  board-more row sum one l r =
+      let e : (row + 1) * C ≡ row * C + C = rw add-one (suc-mul row C) in
+      rw e (record { answer = go; few = omega (arith, l .few, r .few) })
+    where
+      zero-plus : (n : ℕ) → 0 + n ≡ n
+      zero-plus n = omega arith
+
+      go : lones B R C (below 0) + (sum + one) ≡ lones B R C (below (0 + (row * C + C)))
+      go =
+          let a : lones B R C (below 0) + sum ≡ lones B R C (below (row * C)) = l .answer ∙ ap (λ (n : ℕ). lones B R C (below n)) (zero-plus (row * C)) in
+          rw (zero-plus (row * C + C)) (omega (arith, r .answer))
+
+  pub board-few : (row sum : ℕ) → LoneRow B R C 0 (row * C) sum → row ≤ R → sum ≤ R * C
+  board-few row sum l h = omega (arith, l .few, mul-le-mul-right C h)
+
+  pub board-none : LoneRow B R C 0 (0 * C) 0
+  board-none = let e : 0 * C ≡ 0 = omega arith in rw e (row-none 0)
+
+  none : lones B R C (below 0) ≡ 0
+  unfolding lones below
+  none = refl
+
+  -- the total from its two counts
+  pub total-is : (w w′ : List ℕ) (sum : Sum) (numbers : ℕ) → Tallied B R C [] (below (R * C)) w w′ sum → LoneRow B R C 0 (R * C) numbers → sum .count + numbers ≡ total3bv B R C
+  unfolding total3bv
+  total-is w w′ sum numbers t l = ap₂ (λ (x y : ℕ). x + y) (tallied-count B R C [] (below (R * C)) w w′ sum t) whole
+    where
+      whole : numbers ≡ lones B R C (below (R * C))
+      whole =
+          let z : 0 + R * C ≡ R * C = omega arith in
+          let a : lones B R C (below 0) + numbers ≡ lones B R C (below (R * C)) = l .answer ∙ ap (λ (n : ℕ). lones B R C (below n)) z in
+          omega (arith, none)

@@ -1,0 +1,128 @@
+-- Walks put together: the work is given back, and the walks of a chord or of a whole board share their marks.
+use mathlib.Core.Path.{_≡_, refl, ap, ap₂, sym, _∙_}
+use mathlib.Core.Bool.{Bool, true, false, true≢false}
+use mathlib.Core.List.{List, [], _∷_, _++_}
+use Prim.Native.Nat.{ℕ, zero, suc, _+_, _-_, _*_, _<_, _≤_}
+use native.Mathlib.Omega.{arith}
+use native.Mathlib.Numerals.{add-one}
+use borrow.Author.Tests.{ltb-true, ltb-false}
+use lib.Dec.{ltb}
+use lib.ListN.{length, getD, drop, replicate, List·getD-append, length-replicate, getD-replicate}
+use lib.Seq.{ext-getD, getD-append-add, getD-drop}
+use lib.IntN.{ℤ}
+use Rattle.rules.specs.Words.{bit, stackOf, below}
+use Rattle.rules.specs.Board.{faceAt}
+use Rattle.rules.specs.Lent.{workRoom}
+use Rattle.rules.specs.Judging.{freeAt, walkFrom, judgedLeft, Walked, Tally, counted, judgeOne, tally, openingsJudged, unmarked}
+use Rattle.cells.specs.Ground.{Zeros}
+use Rattle.cells.proofs.Words.{stack-length}
+use Rattle.judging.specs.declared.Sum.{Sum}
+use Rattle.judging.specs.Parts.{marksOf, Rest, Went, Judged, Tallied, Lent, ChordJudged}
+use Rattle.judging.proofs.Marks.{marks-none}
+use Rattle.judging.proofs.Judging.{judge-marked, judge-number, judge-zero, judged-length, length-below}
+
+-- ---- the work is given back ----------------------------------------------------------------------------------------------------------
+
+past : (n : ℕ) (w : List ℕ) (i : ℕ) → n ≤ i → getD (replicate n 0 ++ drop n w) i 0 ≡ getD w i 0
+past n w i h =
+    let e : i ≡ length (replicate {A = ℕ} n 0) + (i - n) = rw (length-replicate {0} {A = ℕ} n 0) (omega arith) in
+    ap (λ (j : ℕ). getD (replicate n 0 ++ drop n w) j 0) e ∙ getD-append-add (replicate n 0) (drop n w) (i - n) 0 ∙ getD-drop n w (i - n) 0
+    ∙ ap (λ (j : ℕ). getD w j 0) (let d : n + (i - n) ≡ i = omega arith in d)
+
+-- cleared, the work is as it was
+pub cleared : (n : ℕ) (w w′ w″ : List ℕ) → Zeros n w → Rest n w w′ → length w′ ≡ length w → w″ ≡ replicate n 0 ++ drop n w′ → length w″ ≡ length w′ → w″ ≡ w
+cleared n w w′ w″ z r l e k = ext-getD 0 w″ w (k ∙ l) (λ i lt. go i (ltb i n) refl)
+  where
+    go : (i : ℕ) (b : Bool) → ltb i n ≡ b → getD w″ i 0 ≡ getD w i 0
+    go i true d = let m = ltb-true i n d in rw e (List·getD-append (replicate n 0) (drop n w′) 0 i (rw (length-replicate {0} {A = ℕ} n 0) m) ∙ getD-replicate n i 0 0 m) ∙ sym (z i m)
+    go i false d = let m = ltb-false i n d in rw e (past n w′ i m) ∙ r i m
+
+-- ---- a left click --------------------------------------------------------------------------------------------------------------------
+
+pub judged-left : (B : List ℤ) (R C : ℕ) (shown : List ℕ) (i : ℕ) (w w′ : List ℕ) (whole : Bool) → workRoom (R * C) ≤ length w → Zeros (workRoom (R * C)) w
+    → Went B R C shown i w w′ whole → whole ≡ judgedLeft B R C shown i
+unfolding judgedLeft
+judged-left B R C shown i w w′ whole room z g =
+    sym (ap (λ (x : Walked). x .whole) (ap (walkFrom B R C shown i) (sym (marks-none (R * C) w room z)) ∙ g .outcome))
+
+-- ---- one cell judged -----------------------------------------------------------------------------------------------------------------
+
+module _ (B : List ℤ) (R C : ℕ) (shown : List ℕ) (q : ℕ) (w : List ℕ) (sum : Sum) where
+  abbrev so-far : Tally
+  so-far = record { count = sum .count; marks = marksOf (R * C) w }
+
+  pub judged-marked : freeAt (marksOf (R * C) w) q ≡ false → Judged B R C shown q w sum w sum
+  judged-marked e = record { outcome = judge-marked B R C shown q so-far e; rest = λ i le. refl; still = λ d. (d, refl) }
+
+  pub judged-number : (v : ℕ) → v ≡ faceAt B q → (v ≡ 0 → ⊥) → Judged B R C shown q w sum w sum
+  judged-number v f n = record { outcome = judge-number B R C shown q so-far (λ z. n (f ∙ z)); rest = λ i le. refl; still = λ d. (d, refl) }
+
+  pub judged-walk : freeAt (marksOf (R * C) w) q ≡ true → (v : ℕ) → v ≡ faceAt B q → v ≡ 0 → (w′ : List ℕ) (whole b : Bool) → Went B R C shown q w w′ whole → whole ≡ b
+      → (n : ℕ) → n ≡ sum .count + bit b → Judged B R C shown q w sum w′ (record { count = n; walked = true })
+  judged-walk e v f z w′ whole b g d n k =
+      record {
+        outcome =
+            judge-zero B R C shown q so-far e (sym f ∙ z) ∙ ap (counted (sum .count)) (g .outcome)
+            ∙ ap (λ (x : ℕ). record { count = x; marks = marksOf (R * C) w′ }) (ap (λ (x : Bool). sum .count + bit x) d ∙ sym k);
+        rest = g .rest;
+        still = λ y. absurd (true≢false y);
+      }
+
+-- ---- the cells of a stack judged -----------------------------------------------------------------------------------------------------
+
+module _ (B : List ℤ) (R C : ℕ) (shown w : List ℕ) where
+  tallied-none : workRoom (R * C) ≤ length w → Zeros (workRoom (R * C)) w → Tallied B R C shown [] w w (record { count = 0; walked = false })
+  unfolding tally
+  tallied-none room z =
+      record { outcome = ap (λ (a : List ℕ). record { count = 0; marks = a }) (sym (marks-none (R * C) w room z)); rest = λ i le. refl; long = refl; still = λ e. refl }
+
+  tallied-more : (st w′ : List ℕ) (sum : Sum) (q : ℕ) (w″ : List ℕ) (sum′ : Sum) → Tallied B R C shown st w w′ sum
+      → Judged B R C shown q w′ sum w″ sum′ → length w″ ≡ length w′ → Tallied B R C shown (q ∷ st) w w″ sum′
+  unfolding tally
+  tallied-more st w′ sum q w″ sum′ t j l =
+      record {
+        outcome = ap (judgeOne B R C shown q) (t .outcome) ∙ j .outcome;
+        rest = λ i le. j .rest i le ∙ t .rest i le;
+        long = l ∙ t .long;
+        still = λ d. let r = j .still d in r .1 ∙ t .still (r .0);
+      }
+
+  -- a chord's cells, one after the other
+  pub chord-none : (at : List ℕ) → workRoom (R * C) ≤ length w → Zeros (workRoom (R * C)) w → Tallied B R C shown (stackOf at 0) w w (record { count = 0; walked = false })
+  unfolding stackOf
+  chord-none at room z = tallied-none room z
+
+  pub chord-more : (at : List ℕ) (k : ℕ) (w′ : List ℕ) (sum : Sum) (q : ℕ) (w″ : List ℕ) (sum′ : Sum) → q ≡ getD at k 0 → Tallied B R C shown (stackOf at k) w w′ sum
+      → Judged B R C shown q w′ sum w″ sum′ → length w″ ≡ length w′ → Tallied B R C shown (stackOf at (k + 1)) w w″ sum′
+  unfolding stackOf
+  chord-more at k w′ sum q w″ sum′ e t j l =
+      rw (add-one, ← e) (tallied-more (stackOf at k) w′ sum q w″ sum′ t j l)
+
+  -- the cells of the board, one after the other
+  pub board-none : workRoom (R * C) ≤ length w → Zeros (workRoom (R * C)) w → Tallied B R C shown (below 0) w w (record { count = 0; walked = false })
+  unfolding below
+  board-none room z = tallied-none room z
+
+  pub board-more : (k : ℕ) (w′ : List ℕ) (sum : Sum) (w″ : List ℕ) (sum′ : Sum) → Tallied B R C shown (below k) w w′ sum
+      → Judged B R C shown k w′ sum w″ sum′ → length w″ ≡ length w′ → Tallied B R C shown (below (k + 1)) w w″ sum′
+  unfolding below
+  board-more k w′ sum w″ sum′ t j l = rw add-one (tallied-more (below k) w′ sum k w″ sum′ t j l)
+
+-- what was counted
+pub tallied-count : (B : List ℤ) (R C : ℕ) (shown st w w′ : List ℕ) (sum : Sum) → Tallied B R C shown st w w′ sum → sum .count ≡ openingsJudged B R C shown st
+unfolding openingsJudged
+tallied-count B R C shown st w w′ sum t = sym (ap (λ (x : Tally). x .count) (t .outcome))
+
+tallied-few : (B : List ℤ) (R C : ℕ) (shown st w w′ : List ℕ) (sum : Sum) → Tallied B R C shown st w w′ sum → sum .count ≤ length st
+tallied-few B R C shown st w w′ sum t = let a = tallied-count B R C shown st w w′ sum t in omega (arith, judged-length B R C shown st)
+
+pub chord-few : (B : List ℤ) (R C : ℕ) (shown at : List ℕ) (k : ℕ) (w w′ : List ℕ) (sum : Sum) → Tallied B R C shown (stackOf at k) w w′ sum → sum .count ≤ k
+chord-few B R C shown at k w w′ sum t = rw (stack-length at k) at (tallied-few B R C shown (stackOf at k) w w′ sum t)
+
+pub board-few : (B : List ℤ) (R C : ℕ) (shown : List ℕ) (k : ℕ) (w w′ : List ℕ) (sum : Sum) → Tallied B R C shown (below k) w w′ sum → sum .count ≤ k
+board-few B R C shown k w w′ sum t = rw (length-below k) at (tallied-few B R C shown (below k) w w′ sum t)
+
+pub chord-judged : (B : List ℤ) (R C : ℕ) (shown at : List ℕ) (n : ℕ) (w w′ : List ℕ) (sum : Sum) (w″ : List ℕ) → n ≤ 8 → Tallied B R C shown (stackOf at n) w w′ sum → w″ ≡ w
+    → ChordJudged B R C shown (stackOf at n) (sum .count) w w″
+chord-judged B R C shown at n w w′ sum w″ h t e =
+    record { answer = tallied-count B R C shown (stackOf at n) w w′ sum t; few = let f = chord-few B R C shown at n w w′ sum t in omega arith; same = e }

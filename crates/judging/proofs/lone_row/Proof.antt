@@ -1,0 +1,54 @@
+-- `judging::lone_row`: the invariant is the lone numbers of the row before the column.
+use borrow.Author.Needs.{needs}
+use mathlib.Core.Path.{_≡_}
+use Prim.Native.Nat.{ℕ, _+_, _≤_, _<_, _-_, _*_}
+use native.Mathlib.Omega.{arith}
+use Rattle.judging.specs.Parts.{LoneRow}
+use Rattle.judging.proofs.Lones.{row-none, row-more}
+use Rattle.judging.proofs.lone_row.Statement.{statement}
+use Rattle.judging.proofs.lone_row.Tie as tie
+
+abbrev Inv-loop : tie.InvT-loop
+Inv-loop mines rows columns row sum₀ column₀ sum column = (column ≤ columns) × LoneRow mines rows columns (row * columns) column sum
+
+abbrev μ-loop : tie.MeasureT-loop
+μ-loop mines rows columns row sum₀ column₀ sum column = columns - column
+
+loop-holds : tie.Need-loop-holds Inv-loop μ-loop
+loop-holds c = (omega arith, row-none _ _ _ _)
+
+lone-at-requires : tie.Need-lone-at-requires Inv-loop μ-loop
+lone-at-requires c κs = (c .before .before .pre .0, (c .before .before .pre .1, c .loop-test .taken))
+
+one-requires : tie.Need-one-requires Inv-loop μ-loop
+one-requires c κs = search needs
+
+add-sum : tie.Need-add-sum Inv-loop μ-loop
+add-sum c = omega (arith, row-more _ _ _ _ _ _ _ _ (c .before .before .before .loop .inv .1) (c .before .lone-at .ensures) (c .one .ensures) .few, c .before .before .before .before .pre .0 .sized .columns64)
+
+add-column : tie.Need-add-column Inv-loop μ-loop
+add-column c = omega arith
+
+loop-less : tie.Need-loop-less Inv-loop μ-loop
+loop-less c = omega arith
+
+loop-again : tie.Need-loop-again Inv-loop μ-loop
+loop-again c = (omega arith, row-more _ _ _ _ _ _ _ _ (c .before .before .before .loop .inv .1) (c .before .lone-at .ensures) (c .one .ensures))
+
+returns : tie.Need-returns Inv-loop μ-loop
+returns c = let e : c .before .loop .column ≡ c .before .before .args .columns = omega arith in rw e at (c .before .loop .inv .1)
+
+pub lone-row-spec : {M : Type 1} → statement M
+lone-row-spec =
+    tie.close
+    (tie.spec
+    Inv-loop
+    μ-loop
+    loop-holds
+    lone-at-requires
+    one-requires
+    add-sum
+    add-column
+    loop-less
+    loop-again
+    returns)

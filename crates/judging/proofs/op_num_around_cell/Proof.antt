@@ -1,0 +1,46 @@
+-- `judging::op_num_around_cell`: the tally's count; the work is cleared where a walk was made, and untouched where none was.
+use Rattle.judging.proofs.Tallying.{chord-judged, cleared}
+use borrow.Author.Needs.{needs}
+use Rattle.judging.proofs.op_num_around_cell.Statement.{statement}
+use Rattle.judging.proofs.op_num_around_cell.Tie as tie
+
+judge-cells-requires : tie.Need-judge-cells-requires
+judge-cells-requires c κs = search needs
+
+mul-clear : tie.Need-mul-clear
+mul-clear c = search needs
+
+mul-clear-2 : tie.Need-mul-clear-2
+mul-clear-2 c = search needs
+
+add-clear : tie.Need-add-clear
+add-clear c = search needs
+
+clear-requires : tie.Need-clear-requires
+clear-requires c κs = search needs
+
+same-length : tie.Need-same-length
+same-length c = search needs
+
+returns : tie.Need-returns
+returns c = chord-judged _ _ _ _ _ _ _ _ _ _ (c .before .before .before .before .before .before .before .before .before .before .before .before .pre .1 .1 .0) (c .before .before .before .before .before .before .before .judge-cells .ensures) (cleared _ _ _ _ (c .before .before .before .before .before .before .before .before .before .before .before .before .pre .1 .0) (c .before .before .before .before .before .before .before .judge-cells .ensures .rest) (c .before .before .before .before .before .before .before .judge-cells .ensures .long) (c .before .before .clear .ensures) (c .before .before .clear .kept .0))
+
+same-length-2 : tie.Need-same-length-2
+same-length-2 c = search needs
+
+returns-2 : tie.Need-returns-2
+returns-2 c = chord-judged _ _ _ _ _ _ _ _ _ _ (c .before .before .before .before .before .before .before .before .pre .1 .1 .0) (c .before .before .before .judge-cells .ensures) (c .before .before .before .judge-cells .ensures .still (c .if1 .left))
+
+pub op-num-around-cell-spec : {M : Type 1} → statement M
+op-num-around-cell-spec =
+    tie.close
+    (tie.spec
+    judge-cells-requires
+    mul-clear
+    mul-clear-2
+    add-clear
+    clear-requires
+    same-length
+    returns
+    same-length-2
+    returns-2)

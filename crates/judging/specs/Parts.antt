@@ -1,0 +1,83 @@
+-- What the parts of the walks require and ensure: the marks above the stack in the lent work, one turn, one walk, one cell judged, the cells of a stack judged.
+use mathlib.Core.Path.{_≡_}
+use mathlib.Core.Bool.{Bool, true, false}
+use mathlib.Core.List.{List, [], _∷_}
+use Prim.Native.Nat.{ℕ, _+_, _*_, _<_, _≤_}
+use lib.ListN.{length, getD, set, take, drop}
+use lib.IntN.{ℤ}
+use Rattle.rules.specs.Words.{stackOf, below}
+use Rattle.rules.specs.Grid.{pushed}
+use Rattle.rules.specs.Lent.{workRoom}
+use Rattle.rules.specs.Judging.{freeAt, kind, stackBy, marksBy, wholeBy, walkFrom, Walked, Tally, judgeOne, tally, openingsJudged, lones}
+use Rattle.cells.specs.Ground.{Mined}
+use Rattle.judging.specs.declared.Sum.{Sum}
+
+-- the stack has the first 7 × cells + 8 entries of the work
+abbrev pub stackRoom : ℕ → ℕ
+stackRoom cells = 7 * cells + 8
+
+-- and the marks have the next ones
+unfoldable pub marksOf : ℕ → List ℕ → List ℕ
+marksOf cells w = take cells (drop (stackRoom cells) w)
+
+-- a mine board, and work with room for the stack and the marks
+pub record Walkable (B : List ℤ) (work : List ℕ) (R C : ℕ) : Type 0 where
+  pub mined : Mined B R C
+  pub room : workRoom (R * C) ≤ length work
+
+-- w′ agrees with w from n on
+abbrev pub Rest : ℕ → List ℕ → List ℕ → Type 0
+Rest n w w′ = (i : ℕ) → n ≤ i → getD w′ i 0 ≡ getD w i 0
+
+-- work w with its top at t became w′ with its top at r: the stack is now st, at most n higher, and nothing above it changed
+pub record Grown (w : List ℕ) (t n : ℕ) (st w′ : List ℕ) (r : ℕ) : Type 0 where
+  pub stack : stackOf w′ r ≡ st
+  pub frame : Rest r w w′
+  pub up : t ≤ r
+  pub most : r ≤ t + n
+
+-- the cell was taken off the stack of w, whose top is now at t, and worked off: w, t and whole became those with a prime
+pub record Stepped (B : List ℤ) (R C : ℕ) (shown : List ℕ) (i t : ℕ) (w : List ℕ) (whole : Bool) (w′ : List ℕ) (t′ : ℕ) (whole′ : Bool) : Type 0 where
+  pub stack : stackOf w′ t′ ≡ stackBy (kind B shown (marksOf (R * C) w) i) (pushed R C (freeAt (set (marksOf (R * C) w) i 1)) i 8 (stackOf w t)) (stackOf w t)
+  pub marks : marksOf (R * C) w′ ≡ marksBy (kind B shown (marksOf (R * C) w) i) (set (marksOf (R * C) w) i 1) (marksOf (R * C) w)
+  pub judged : whole′ ≡ wholeBy (kind B shown (marksOf (R * C) w) i) whole
+  pub rest : Rest (workRoom (R * C)) w w′
+
+-- a walk was made
+pub record Went (B : List ℤ) (R C : ℕ) (shown : List ℕ) (i : ℕ) (w w′ : List ℕ) (whole : Bool) : Type 0 where
+  pub outcome : walkFrom B R C shown i (marksOf (R * C) w) ≡ record { marks = marksOf (R * C) w′; whole = whole }
+  pub rest : Rest (workRoom (R * C)) w w′
+
+-- one cell was judged; where no walk was made, the work is as it was
+pub record Judged (B : List ℤ) (R C : ℕ) (shown : List ℕ) (q : ℕ) (w : List ℕ) (sum : Sum) (w′ : List ℕ) (sum′ : Sum) : Type 0 where
+  pub outcome : judgeOne B R C shown q (record { count = sum .count; marks = marksOf (R * C) w }) ≡ record { count = sum′ .count; marks = marksOf (R * C) w′ }
+  pub rest : Rest (workRoom (R * C)) w w′
+  pub still : sum′ .walked ≡ false → (sum .walked ≡ false) × (w′ ≡ w)
+
+-- the cells of a stack were judged
+pub record Tallied (B : List ℤ) (R C : ℕ) (shown st w w′ : List ℕ) (sum : Sum) : Type 0 where
+  pub outcome : tally B R C shown st ≡ record { count = sum .count; marks = marksOf (R * C) w′ }
+  pub rest : Rest (workRoom (R * C)) w w′
+  pub long : length w′ ≡ length w
+  pub still : sum .walked ≡ false → w′ ≡ w
+
+-- an answer came back, and the work as it was lent
+pub record Lent {A : Type 0} (r value : A) (w w′ : List ℕ) : Type 0 where
+  pub answer : r ≡ value
+  pub same : w′ ≡ w
+
+-- the same of a chord's cells, at most eight
+pub record ChordJudged (B : List ℤ) (R C : ℕ) (shown cells : List ℕ) (r : ℕ) (w w′ : List ℕ) : Type 0 where
+  pub answer : r ≡ openingsJudged B R C shown cells
+  pub few : r ≤ 8
+  pub same : w′ ≡ w
+
+-- the lone numbers of a chord's cells, at most eight
+pub record Lone (B : List ℤ) (R C : ℕ) (cells : List ℕ) (r : ℕ) : Type 0 where
+  pub answer : r ≡ lones B R C cells
+  pub few : r ≤ 8
+
+-- the lone numbers of n cells, from one on
+pub record LoneRow (B : List ℤ) (R C from n r : ℕ) : Type 0 where
+  pub answer : lones B R C (below from) + r ≡ lones B R C (below (from + n))
+  pub few : r ≤ n

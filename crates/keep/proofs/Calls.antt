@@ -1,0 +1,115 @@
+-- No call, accepted or refused, leads from a position that the position check accepts to one that it does not; and setup leads to one that it accepts.
+use mathlib.Core.Path.{_≡_, refl}
+use mathlib.Core.Bool.{Bool, true, false}
+use mathlib.Core.List.{List}
+use Prim.Native.Nat.{ℕ}
+use borrow.Author.Tests.{eqb-true}
+use lib.Dec.{eqb, leb}
+use lib.IntN.{ℤ}
+use lib.ListN.{length, getD, replicate}
+use Rattle.rules.specs.declared.Settings.{Settings}
+use Rattle.rules.specs.declared.Answer.{Answer}
+use Rattle.rules.specs.declared.GameState.the-variants.{Loss}
+use Rattle.rules.specs.Words.{pick}
+use Rattle.rules.specs.States.{isLoss, freshOf, withGame}
+use Rattle.rules.specs.Board.{faceAt}
+use Rattle.rules.specs.Clicks.{Desk, desk, done, on}
+use Rattle.rules.specs.Step.{stepOn}
+use Rattle.rules.specs.Lawful.{cellLawful}
+use Rattle.rules.specs.Calls.{Outcome, SetUp, boardsFit, freshDesk, setupBy, setupRefusal, resetOf, answers, setUp, positionCheck, lentRefusal, refused, accepted, played, stepOf, plays, lastPlay, flowed, flowRefusal, flowOf, gameStateOf}
+use Rattle.cells.proofs.Words.{pick-both}
+use Rattle.keep.specs.Kept.{LawfulAt, Follows, leftBy, setBy}
+use Rattle.keep.proofs.Lawful.{settings-accepted, accepted-ground, check-lawful, settings-check, check-passes}
+use Rattle.keep.proofs.Fresh.{fresh-lawful}
+use Rattle.keep.proofs.Opened.{lawful-later}
+use Rattle.keep.proofs.Step.{step-check, plays-follow}
+
+-- the fresh desk of settings that 20 to 25 did not refuse
+pub setup-lawful : (s : Settings) (B : List ℤ) (shown bits : List ℕ) → setupRefusal s B shown bits ≡ 0 → LawfulAt B (freshDesk s shown bits)
+unfolding setupRefusal
+setup-lawful s B shown bits e =
+    let a = settings-accepted s (boardsFit s B shown bits) B 0 e in
+    fresh-lawful B s shown bits (accepted-ground shown bits (a .0) (a .0 .fits))
+
+-- Loss by `step_game_state`
+pub lost-lawful : (B : List ℤ) (d : Desk) → LawfulAt B d → LawfulAt B (on d (withGame (d .position) Loss))
+lost-lawful B d l =
+    let h = l .kept .sound in
+    record {
+      kept = record {
+        sound = record {
+          ground = h .ground;
+          bounded = h .bounded;
+          double = h .double;
+          solved = h .solved;
+          flag = h .flag;
+          wrong = h .wrong;
+          cells = λ i lt. lost-cell (isLoss (d .position .game)) (faceAt B i) (getD (d .shown) i 0) (h .cells i lt);
+          mines = h .mines;
+        };
+        preflags = l .kept .preflags;
+        held = l .kept .held;
+        phase = tt;
+      };
+      few = l .few;
+    }
+  where
+    lost-cell : (t : Bool) (f x : ℕ) → cellLawful (d .position .settings .question) t f x ≡ true → cellLawful (d .position .settings .question) true f x ≡ true
+    lost-cell true f x e = e
+    lost-cell false f x e = lawful-later (d .position .settings .question) true f x e
+
+-- ---- each call ---------------------------------------------------------------------------------------------------------------------------
+
+abbrev Accepts : List ℤ → Desk → Type 0
+Accepts B d = positionCheck B d ≡ 0
+
+-- setup
+pub setup-keeps : (s : Settings) (B : List ℤ) (shown bits : List ℕ) → setupRefusal s B shown bits ≡ 0 → Accepts B (freshDesk s shown bits)
+unfolding setupRefusal
+setup-keeps s B shown bits e =
+    settings-check s (boardsFit s B shown bits) B 0 (freshDesk s shown bits) e refl (setup-lawful s B shown bits e)
+
+setup-by : (B : List ℤ) (d : Desk) (n : ℕ) → (n ≡ 0 → Accepts B (freshDesk (d .position .settings) (d .shown) (d .bits))) → Accepts B d
+    → Accepts B (setBy (setupBy n (d .position) (d .position .settings) (d .shown) (d .bits)))
+unfolding setupBy
+setup-by B d n f e =
+    pick-both (λ (o : SetUp). Accepts B (setBy o)) (eqb n 0)
+    (setUp (answers 0 (freshOf (d .position .settings)) 0) (replicate (length (d .shown)) 10) (replicate (length (d .bits)) 0))
+    (setUp (answers n (d .position) 0) (d .shown) (d .bits))
+    (λ z. f (eqb-true n 0 z)) (λ _. e)
+
+-- reset
+pub reset-keeps : (B : List ℤ) (d : Desk) → Accepts B d → Accepts B (setBy (resetOf B d))
+unfolding resetOf
+reset-keeps B d e =
+    setup-by B d (setupRefusal (d .position .settings) B (d .shown) (d .bits)) (setup-keeps (d .position .settings) B (d .shown) (d .bits)) e
+
+-- step
+pub step-call-keeps : (B : List ℤ) (code r c : ℕ) (d : Desk) (work : List ℕ) → Accepts B d → Accepts B (leftBy (stepOf B code r c d work))
+unfolding stepOf
+step-call-keeps B code r c d work e =
+    pick-both (λ (o : Outcome). Accepts B (leftBy o)) (eqb (lentRefusal B d work) 0) (played (stepOn B code r c d) work) (refused (lentRefusal B d work) d work)
+    (λ _. pick-both (λ (o : Outcome). Accepts B (leftBy o)) (leb 20 (stepOn B code r c d .answer))
+    (refused (stepOn B code r c d .answer) (stepOn B code r c d .desk) work) (accepted (stepOn B code r c d .answer) (stepOn B code r c d .desk) work)
+    (λ _. step-check B code r c d e) (λ _. step-check B code r c d e))
+    (λ _. e)
+
+-- step_flow
+pub flow-call-keeps : (B : List ℤ) (events : List ℕ) (d : Desk) (work : List ℕ) → Accepts B d → Accepts B (leftBy (flowOf B events d work))
+unfolding flowOf
+flow-call-keeps B events d work e =
+    let f : Follows B d (lastPlay (done 0 d) (plays B events d) .desk) =
+    plays-follow B events d (done 0 d) (record { lawful = check-lawful B d e; settings = refl; told = λ t. t }) in
+    pick-both (λ (o : Outcome). Accepts B (leftBy o)) (eqb (flowRefusal B events d work) 0)
+    (flowed (plays B events d) (lastPlay (done 0 d) (plays B events d)) work) (refused (flowRefusal B events d work) d work)
+    (λ _. check-passes B d (lastPlay (done 0 d) (plays B events d) .desk) e (f .settings) (f .lawful)) (λ _. e)
+
+-- step_game_state
+pub game-state-keeps : (B : List ℤ) (event : ℕ) (d : Desk) → Accepts B d → Accepts B (on d (gameStateOf B event d .position))
+unfolding gameStateOf
+game-state-keeps B event d e =
+    pick-both (λ (a : Answer). Accepts B (on d (a .position))) (eqb (positionCheck B d) 0)
+    (pick (leb event 1) (answers 0 (withGame (d .position) Loss) 0) (answers 33 (d .position) 0)) (answers (positionCheck B d) (d .position) 0)
+    (λ _. pick-both (λ (a : Answer). Accepts B (on d (a .position))) (leb event 1) (answers 0 (withGame (d .position) Loss) 0) (answers 33 (d .position) 0)
+    (λ _. check-passes B d (on d (withGame (d .position) Loss)) e refl (lost-lawful B d (check-lawful B d e))) (λ _. e))
+    (λ _. e)

@@ -1,0 +1,15 @@
+pub mod Lawful
+pub mod Counting
+pub mod Fresh
+pub mod Reshow
+pub mod Moves
+pub mod Right
+pub mod Opened
+pub mod Left
+pub mod Around
+pub mod Chord
+pub mod Passes
+pub mod States
+pub mod Step
+pub mod Room
+pub mod Calls

@@ -1,0 +1,361 @@
+// What the hand's codes mean: the table of the seven mouse states, resolving l, r and m, pointers and events, and the refusals 30 to 33.
+// Nothing here writes. The contracts cite rules' Mouse and Step.
+ghost use mathlib.Core.Path.{_≡_};
+ghost use mathlib.Core.Bool.{Bool, true, false, not, _&&_, _||_};
+ghost use mathlib.Core.List.{List, []};
+ghost use Prim.Native.Nat.{ℕ, _+_, _*_, _<_};
+ghost use lib.Dec.{eqb, ltb};
+ghost use lib.ListN.{getD};
+ghost use Rattle.rules.specs.Words.{pick, unless};
+ghost use Rattle.rules.specs.Grid.{cellOf};
+ghost use Rattle.rules.specs.Clicks.{desk};
+ghost use Rattle.rules.specs.Mouse.{nextMouse, moved as movedOf, bothDown, resolved, flipped};
+ghost use Rattle.rules.specs.Step.{onCell, seenAt, pointerOf, eventOf, errsPlaying, errsPreFlaging, isUnknown, badPreFlag, eventRefusal, plainOf, refusalAt};
+use rules::Decoded;
+use rules::Event;
+use rules::GameState;
+use rules::Pointer;
+use rules::Position;
+use rules::Settings;
+
+// The next mouse state of the Playing block, by event code and present state; Ready and PreFlaging partly fall through to it.
+const NEXT: [[u8; 7]; 8] = [
+    [3, 4, 5, 3, 4, 5, 6],
+    [0, 1, 2, 0, 1, 1, 0],
+    [1, 1, 2, 4, 4, 5, 4],
+    [0, 0, 0, 3, 6, 6, 6],
+    [0, 1, 2, 3, 4, 5, 6],
+    [0, 1, 2, 3, 4, 5, 6],
+    [0, 1, 2, 3, 4, 5, 6],
+    [4, 4, 5, 4, 4, 5, 4],
+];
+
+fn next_mouse(e: usize, m: u8) -> u8
+    requires { ⌜ (e < 8) × (m < 7) ⌝ }
+    ensures { λ r. ⌜ r ≡ nextMouse e m ⌝ }
+{
+    NEXT[e][m as usize]
+}
+
+// The position with its mouse state moved on by an event code.
+pub fn moved(e: usize, p: Position) -> Position
+    requires { ⌜ e < 8 ⌝ }
+    ensures { λ r. ⌜ r ≡ movedOf e p ⌝ }
+{
+    let mouse = p.mouse;
+    let m = rules::mouse_number(mouse);
+    let n = next_mouse(e, m);
+    let to = rules::mouse_at(n);
+    p.with_mouse(to)
+}
+
+// Chording and ChordingNotFlag.
+pub fn both_down(m: u8) -> bool
+    ensures { λ r. ⌜ r ≡ bothDown m ⌝ }
+{
+    if m == 4 {
+        return true;
+    }
+    m == 5
+}
+
+// A button that is held is released, another is pressed.
+fn released(held: bool, up: u8, down: u8) -> u8
+    ensures { λ r. ⌜ r ≡ pick held up down ⌝ }
+{
+    if held {
+        return up;
+    }
+    down
+}
+
+// r releases in UpDown and where both buttons are down; not in UpDownNotFlag.
+fn right_is_held(m: u8) -> bool
+    ensures { λ r. ⌜ r ≡ (eqb m 1 || bothDown m) ⌝ }
+{
+    if m == 1 {
+        return true;
+    }
+    both_down(m)
+}
+
+// l, r and m as plain codes; every other code stays.
+pub fn resolve(code: u8, m: u8, middle: bool) -> u8
+    ensures { λ r. ⌜ r ≡ resolved code m middle ⌝ }
+{
+    if code == 9 {
+        return released(3 <= m, 1, 0);
+    }
+    if code == 10 {
+        let held = right_is_held(m);
+        return released(held, 3, 2);
+    }
+    if code == 11 {
+        return released(middle, 6, 5);
+    }
+    code
+}
+
+// m flips the middle flag.
+pub fn flip(code: u8, middle: bool) -> bool
+    ensures { λ r. ⌜ r ≡ flipped code middle ⌝ }
+{
+    if code == 11 {
+        return !middle;
+    }
+    middle
+}
+
+// ---- pointers and events ---------------------------------------------------------------------------------------------------------------
+
+pub fn on_cell(x: Pointer) -> bool
+    ensures { λ r. ⌜ r ≡ onCell x ⌝ }
+{
+    match x {
+        Pointer::Cell { row: _, column: _ } => true,
+        Pointer::Off => false,
+    }
+}
+
+// The number of a cell.
+pub fn cell(columns: u8, row: u8, column: u8) -> usize
+    ensures { λ r. ⌜ r ≡ cellOf columns row column ⌝ }
+{
+    (row as usize) * (columns as usize) + (column as usize)
+}
+
+fn shown_at(shown: &[u8], i: usize) -> u8
+    ensures { λ r. ⌜ r ≡ getD (now (shown .entry)) i 0 ⌝ }
+{
+    if i < shown.len() {
+        return shown[i];
+    }
+    0
+}
+
+// What is shown at the pointer; off the board 0, as an open cell.
+pub fn seen_at(p: Position, shown: &[u8], x: Pointer) -> u8
+    ensures { λ r. ⌜ ((bits : List ℕ) → r ≡ seenAt (desk p (now (shown .entry)) bits) x) ⌝ }
+{
+    match x {
+        Pointer::Cell { row, column } => {
+            let i = cell(p.settings.columns, row, column);
+            shown_at(shown, i)
+        }
+        Pointer::Off => 0,
+    }
+}
+
+fn within(row: u8, rows: u8, column: u8, columns: u8) -> bool
+    ensures { λ r. ⌜ r ≡ (ltb row rows && ltb column columns) ⌝ }
+{
+    if row < rows {
+        return column < columns;
+    }
+    false
+}
+
+fn exactly(row: u8, rows: u8, column: u8, columns: u8) -> bool
+    ensures { λ r. ⌜ r ≡ (eqb row rows && eqb column columns) ⌝ }
+{
+    if row == rows {
+        return column == columns;
+    }
+    false
+}
+
+// A cell, or exactly (rows, columns), else none.
+pub fn decode(s: Settings, row: u8, column: u8) -> Decoded
+    ensures { λ r. ⌜ r ≡ pointerOf s row column ⌝ }
+{
+    if within(row, s.rows, column, s.columns) {
+        return Decoded::At(Pointer::Cell { row, column });
+    }
+    if exactly(row, s.rows, column, s.columns) {
+        return Decoded::At(Pointer::Off);
+    }
+    Decoded::Bad
+}
+
+// The event of a plain code.
+pub fn event_of(code: u8, x: Pointer) -> Event
+    ensures { λ r. ⌜ r ≡ eventOf code x ⌝ }
+{
+    match code {
+        0 => Event::Lc(x),
+        1 => Event::Lr(x),
+        2 => Event::Rc(x),
+        3 => Event::Rr(x),
+        4 => Event::Mv(x),
+        5 => Event::Mc(x),
+        6 => Event::Mr(x),
+        7 => Event::Cc(x),
+        8 => Event::Pf(x),
+        _ => Event::Unknown { code, pointer: x },
+    }
+}
+
+// The plain event that a code and a pointer are at a position.
+pub fn plain(p: Position, code: u8, x: Pointer) -> Event
+    ensures { λ r. ⌜ ((shown bits : List ℕ) → r ≡ plainOf code x (desk p shown bits)) ⌝ }
+{
+    let mouse = p.mouse;
+    let m = rules::mouse_number(mouse);
+    let c = resolve(code, m, p.middle);
+    event_of(c, x)
+}
+
+// ---- the refusals 31 to 33 -------------------------------------------------------------------------------------------------------------
+
+fn errs_playing(m: u8, e: Event) -> bool
+    ensures { λ r. ⌜ r ≡ errsPlaying m e ⌝ }
+{
+    match e {
+        Event::Lc(_) => false,
+        Event::Lr(_) => false,
+        Event::Rc(_) => false,
+        Event::Rr(_) => false,
+        Event::Mv(_) => false,
+        Event::Mc(_) => false,
+        Event::Mr(_) => false,
+        Event::Cc(_) => both_down(m),
+        Event::Pf(_) => true,
+        Event::Unknown {
+            code: _,
+            pointer: _,
+        } => true,
+    }
+}
+
+fn right_is_down(m: u8) -> bool
+    ensures { λ r. ⌜ r ≡ (eqb m 1 || (eqb m 2 || bothDown m)) ⌝ }
+{
+    if m == 1 {
+        return true;
+    }
+    if m == 2 {
+        return true;
+    }
+    both_down(m)
+}
+
+fn errs_pre_flaging(m: u8, e: Event) -> bool
+    ensures { λ r. ⌜ r ≡ errsPreFlaging m e ⌝ }
+{
+    match e {
+        Event::Lc(_) => false,
+        Event::Lr(_) => false,
+        Event::Rc(_) => right_is_down(m),
+        Event::Rr(_) => false,
+        Event::Mv(_) => false,
+        Event::Mc(_) => false,
+        Event::Mr(_) => false,
+        Event::Cc(_) => both_down(m),
+        Event::Pf(_) => false,
+        Event::Unknown {
+            code: _,
+            pointer: _,
+        } => true,
+    }
+}
+
+fn is_unknown(e: Event) -> bool
+    ensures { λ r. ⌜ r ≡ isUnknown e ⌝ }
+{
+    match e {
+        Event::Lc(_) => false,
+        Event::Lr(_) => false,
+        Event::Rc(_) => false,
+        Event::Rr(_) => false,
+        Event::Mv(_) => false,
+        Event::Mc(_) => false,
+        Event::Mr(_) => false,
+        Event::Cc(_) => false,
+        Event::Pf(_) => false,
+        Event::Unknown {
+            code: _,
+            pointer: _,
+        } => true,
+    }
+}
+
+fn not_closed(p: Position, shown: &[u8], x: Pointer) -> bool
+    ensures { λ r. ⌜ ((bits : List ℕ) → r ≡ not (eqb (seenAt (desk p (now (shown .entry)) bits) x) 10)) ⌝ }
+{
+    let v = seen_at(p, shown, x);
+    v != 10
+}
+
+// pf off the board or on a cell not showing 10.
+fn bad_pre_flag(p: Position, shown: &[u8], e: Event) -> bool
+    ensures { λ r. ⌜ ((bits : List ℕ) → r ≡ badPreFlag (desk p (now (shown .entry)) bits) e) ⌝ }
+{
+    match e {
+        Event::Lc(_) => false,
+        Event::Lr(_) => false,
+        Event::Rc(_) => false,
+        Event::Rr(_) => false,
+        Event::Mv(_) => false,
+        Event::Mc(_) => false,
+        Event::Mr(_) => false,
+        Event::Cc(_) => false,
+        Event::Pf(x) => not_closed(p, shown, x),
+        Event::Unknown {
+            code: _,
+            pointer: _,
+        } => false,
+    }
+}
+
+// 32 before 33.
+fn first_of(bad: bool, errs: bool) -> u16
+    ensures { λ r. ⌜ r ≡ unless 32 (not bad) (unless 33 (not errs) 0) ⌝ }
+{
+    if bad {
+        return 32;
+    }
+    if errs {
+        return 33;
+    }
+    0
+}
+
+// 32 in Ready or PreFlaging, then 33; neither in Win or Loss.
+fn event_refusal(g: GameState, p: Position, shown: &[u8], e: Event) -> u16
+    ensures { λ r. ⌜ ((bits : List ℕ) → r ≡ eventRefusal g e (desk p (now (shown .entry)) bits)) ⌝ }
+{
+    match g {
+        GameState::Ready => {
+            let bad = bad_pre_flag(p, shown, e);
+            let errs = is_unknown(e);
+            first_of(bad, errs)
+        }
+        GameState::PreFlaging => {
+            let bad = bad_pre_flag(p, shown, e);
+            let mouse = p.mouse;
+            let m = rules::mouse_number(mouse);
+            let errs = errs_pre_flaging(m, e);
+            first_of(bad, errs)
+        }
+        GameState::Playing => {
+            let mouse = p.mouse;
+            let m = rules::mouse_number(mouse);
+            let errs = errs_playing(m, e);
+            first_of(false, errs)
+        }
+        GameState::Win => 0,
+        GameState::Loss => 0,
+    }
+}
+
+// 31, 32 and 33 of an event whose pointer is good; 0 for an event that is accepted.
+pub fn refusal_at(p: Position, shown: &[u8], code: u8, x: Pointer) -> u16
+    ensures { λ r. ⌜ ((bits : List ℕ) → r ≡ refusalAt code x (desk p (now (shown .entry)) bits)) ⌝ }
+{
+    if 65535 <= p.events {
+        return 31;
+    }
+    let e = plain(p, code, x);
+    let g = p.game;
+    event_refusal(g, p, shown, e)
+}

@@ -1,0 +1,11 @@
+pub mod Lists
+pub mod Cases
+pub mod Cost
+pub mod Opening
+pub mod Stack
+pub mod Turning
+pub mod Going
+pub mod Refresh
+pub mod RustSame
+pub mod Highest
+pub mod Exact

@@ -1,0 +1,4 @@
+pub mod Changed
+pub mod Reach
+pub mod Parts
+pub mod Rust
