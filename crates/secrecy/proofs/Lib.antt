@@ -1,0 +1,10 @@
+pub mod Lists
+pub mod Quiet
+pub mod Opens
+pub mod Hands
+pub mod Events
+pub mod Secrecy
+pub mod Games
+pub mod Witness
+pub mod Needed
+pub mod Public

@@ -1,0 +1,4 @@
+pub mod Demand
+pub mod Public
+pub mod Witness
+pub mod Needed

@@ -1,0 +1,61 @@
+-- Two pairs of games that meet the hypotheses of the demand, with a hidden mine in different places: one still played, one lost.
+-- proofs/Witness.antt computes them.
+use mathlib.Core.Path.{_≡_}
+use mathlib.Core.Bool.{false}
+use mathlib.Core.List.{List, [], _∷_}
+use Prim.Native.Nat.{ℕ}
+use lib.IntN.{ℤ, pos, negsuc}
+use Rattle.rules.specs.declared.Settings.{Settings}
+use Rattle.rules.specs.Clicks.{Desk, done}
+use Rattle.rules.specs.Calls.{lastPlay}
+use Rattle.secrecy.specs.Demand.{freshStart, game}
+
+-- one row in mode 0, question marks off
+abbrev pub line : ℕ → Settings
+line n = record { rows = 1; columns = n; mode = 0; question = false }
+
+abbrev pub mine : ℤ
+mine = negsuc 0
+
+-- open is lc, lr; flag is rc, rr; chord is mr
+abbrev pub opens : ℕ → List ℕ → List ℕ
+opens c es = 0 ∷ 0 ∷ c ∷ 1 ∷ 0 ∷ c ∷ es
+
+abbrev pub flags : ℕ → List ℕ → List ℕ
+flags c es = 2 ∷ 0 ∷ c ∷ 3 ∷ 0 ∷ c ∷ es
+
+abbrev pub chords : ℕ → List ℕ → List ℕ
+chords c es = 6 ∷ 0 ∷ c ∷ es
+
+-- mines at 1, 7, 9, 15, and at 1, 6, 9, 14; both end as 10 10 1 0 0 11 11 10 10 11 1 0 0 11 10 10
+abbrev pub playedA : List ℤ
+playedA =
+    pos 1 ∷ mine ∷ pos 1 ∷ pos 0 ∷ pos 0 ∷ pos 0 ∷ pos 1 ∷ mine ∷ pos 2 ∷ mine ∷ pos 1 ∷ pos 0 ∷ pos 0 ∷ pos 0 ∷ pos 1 ∷ mine ∷ []
+
+abbrev pub playedB : List ℤ
+playedB =
+    pos 1 ∷ mine ∷ pos 1 ∷ pos 0 ∷ pos 0 ∷ pos 1 ∷ mine ∷ pos 1 ∷ pos 1 ∷ mine ∷ pos 1 ∷ pos 0 ∷ pos 0 ∷ pos 1 ∷ mine ∷ pos 1 ∷ []
+
+abbrev pub playedEvents : List ℕ
+playedEvents = flags 5 (flags 6 (opens 4 (flags 13 (opens 10 (flags 9 (chords 10 []))))))
+
+-- mines at 1, 3, 8, and at 1, 3, 9; both end as 10 11 2 15 14 10 10 10 10 10
+abbrev pub lostA : List ℤ
+lostA = pos 1 ∷ mine ∷ pos 2 ∷ mine ∷ pos 1 ∷ pos 0 ∷ pos 0 ∷ pos 1 ∷ mine ∷ pos 1 ∷ []
+
+abbrev pub lostB : List ℤ
+lostB = pos 1 ∷ mine ∷ pos 2 ∷ mine ∷ pos 1 ∷ pos 0 ∷ pos 0 ∷ pos 0 ∷ pos 1 ∷ mine ∷ []
+
+abbrev pub lostEvents : List ℕ
+lostEvents = flags 1 (flags 4 (opens 2 (opens 3 [])))
+
+-- the desk that a game ends with
+abbrev pub end : Settings → List ℕ → List ℤ → Desk
+end s events B = lastPlay (done 0 (freshStart s)) (game s events B) .desk
+
+-- what the demand does not promise, and why it is shown only after the game: rce, both solved counts and the bits can differ
+pub record Differ (d e : Desk) : Type 0 where
+  pub rce : d .position .secrets .rce ≡ e .position .secrets .rce → ⊥
+  pub left : d .position .secrets .«solved_left» ≡ e .position .secrets .«solved_left» → ⊥
+  pub chord : d .position .secrets .«solved_chord» ≡ e .position .secrets .«solved_chord» → ⊥
+  pub bits : d .bits ≡ e .bits → ⊥

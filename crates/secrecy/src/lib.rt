@@ -1,0 +1,1 @@
+// Laws only: a player learns nothing from a closed cell (specs/Demand.antt).
