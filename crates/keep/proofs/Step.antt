@@ -32,7 +32,7 @@ use Rattle.keep.proofs.States.{middle-live, event-live}
 
 -- ---- one event ---------------------------------------------------------------------------------------------------------------------------
 
-event-inside : (s : Settings) (code : ℕ) (x : Pointer) → Inside s x → InsideOf s (eventOf code x)
+pub event-inside : (s : Settings) (code : ℕ) (x : Pointer) → Inside s x → InsideOf s (eventOf code x)
 unfolding eventOf
 event-inside s code x i =
     pick-both (InsideOf s) (eqb code 0) (Lc x) _ (λ _. i) (λ _. pick-both (InsideOf s) (eqb code 1) (Lr x) _ (λ _. i)
@@ -87,7 +87,7 @@ play-keeps n B code x d i h = go (isLoss (d .position .game)) refl
 
 -- ---- a step ------------------------------------------------------------------------------------------------------------------------------
 
-pointer-inside : (s : Settings) (r c : ℕ) (x : Pointer) → pointerOf s r c ≡ At x → Inside s x
+pub pointer-inside : (s : Settings) (r c : ℕ) (x : Pointer) → pointerOf s r c ≡ At x → Inside s x
 unfolding pointerOf
 pointer-inside s r c x = go (ltb r (s .rows) && ltb c (s .columns)) (eqb r (s .rows) && eqb c (s .columns)) refl
   where

@@ -1,21 +1,20 @@
 -- What a turn of opening costs: the stack's height against the number of closed cells. Never more than 7 × cells + 8 are stacked, and 8 × cells + 8 turns suffice.
-use mathlib.Core.Path.{_≡_, refl, ap, sym, _∙_}
+use mathlib.Core.Path.{_≡_, refl, ap, _∙_}
 use mathlib.Core.Bool.{Bool, true, false}
-use mathlib.Core.List.{List, [], _∷_}
+use mathlib.Core.List.{List}
 use mathlib.Core.Logic.{_⊎_, inl, inr}
-use Prim.Native.Nat.{ℕ, zero, suc, _+_, _-_, _*_, _<_, _≤_}
+use Prim.Native.Nat.{ℕ, suc, _+_, _*_, _<_, _≤_}
 use native.Mathlib.Omega.{arith}
 use borrow.Author.Tests.{eqb-true, eqb-false, leb-true, ltb-true, ltb-false, ne-eqb}
 use lib.Dec.{eqb, ltb}
 use lib.ListN.{length, getD, set, length-set, List·getD-eq-default}
 use lib.IntN.{ℤ, pos, negsuc}
-use Rattle.rules.specs.Words.{bit, count}
-use Rattle.rules.specs.Board.{face, faceAt, mineAt, valueOk}
-use Rattle.rules.specs.Opening.{closedAt, shownAfter, stackAfter, hitAfter}
+use Rattle.rules.specs.Words.{bit}
+use Rattle.rules.specs.Board.{face, faceAt, valueOk}
+use Rattle.rules.specs.Opening.{closedAt, shownAfter, stackAfter}
 use Rattle.rules.specs.Lawful.{countShown, shows}
-use Rattle.cells.specs.Ground.{Valued, Below}
+use Rattle.cells.specs.Ground.{Valued}
 use Rattle.cells.proofs.Words.{count-le}
-use Rattle.cells.proofs.Grid.{pushed-below}
 use Rattle.opening.proofs.Lists.{countShown-set, pushed-height}
 use Rattle.opening.proofs.Cases.{closed-in, shown-open, shown-shut, stack-zero, stack-number, stack-shut}
 
@@ -53,6 +52,9 @@ pub closed-most : (shown : List ℕ) → countShown (shows 10) shown ≤ length 
 unfolding countShown
 closed-most shown = count-le (λ i. shows 10 (getD shown i 0)) (length shown)
 
+pub closed-after : (B : List ℤ) (shown : List ℕ) (i : ℕ) → Valued B → closedAt shown i ≡ true → suc (countShown (shows 10) (shownAfter B shown i)) ≡ countShown (shows 10) shown
+closed-after B shown i v e = rw (shown-open B 0 0 shown i e) (closed-set shown i (faceAt B i) e (face-ne B v i 10 (omega arith) (omega arith)))
+
 -- the two sums that never grow
 pub record Cheaper (B : List ℤ) (R C : ℕ) (shown : List ℕ) (i : ℕ) (st : List ℕ) : Type 0 where
   pub fuel : length (stackAfter B R C shown i st) + 8 * countShown (shows 10) (shownAfter B shown i) ≤ length st + 8 * countShown (shows 10) shown
@@ -61,17 +63,14 @@ pub record Cheaper (B : List ℤ) (R C : ℕ) (shown : List ℕ) (i : ℕ) (st :
 pub cheaper : (B : List ℤ) (R C : ℕ) (shown : List ℕ) (i : ℕ) (st : List ℕ) → Valued B → Cheaper B R C shown i st
 cheaper B R C shown i st v = go (closedAt shown i) (eqb (faceAt B i) 0) refl refl
   where
-    less : closedAt shown i ≡ true → suc (countShown (shows 10) (shownAfter B shown i)) ≡ countShown (shows 10) shown
-    less e = rw (shown-open B R C shown i e) (closed-set shown i (faceAt B i) e (face-ne B v i 10 (omega arith) (omega arith)))
-
     go : (a b : Bool) → closedAt shown i ≡ a → eqb (faceAt B i) 0 ≡ b → Cheaper B R C shown i st
     go true true e f =
         let h : length (stackAfter B R C shown i st) ≤ 8 + length st = rw (stack-zero B R C shown i st e (eqb-true _ _ f)) (pushed-height R C (closedAt (set shown i 0)) i 8 st) in
-        let l = less e in
+        let l = closed-after B shown i v e in
         record { fuel = omega arith; height = omega arith }
     go true false e f =
         let h : length (stackAfter B R C shown i st) ≡ length st = ap length (stack-number B R C shown i st (eqb-false _ _ f)) in
-        let l = less e in
+        let l = closed-after B shown i v e in
         record { fuel = omega arith; height = omega arith }
     go false b e f =
         let h : length (stackAfter B R C shown i st) ≡ length st = ap length (stack-shut B R C shown i st e) in
@@ -84,14 +83,3 @@ length-after B shown i = go (closedAt shown i) refl
     go : (a : Bool) → closedAt shown i ≡ a → length (shownAfter B shown i) ≡ length shown
     go true e = ap length (shown-open B 0 0 shown i e) ∙ length-set shown i (faceAt B i)
     go false e = ap length (shown-shut B 0 0 shown i e)
-
--- the stack stays on the board
-pub below-after : (B : List ℤ) (R C : ℕ) (shown : List ℕ) (i : ℕ) (st : List ℕ) → Below (length shown) st → Below (length shown) (stackAfter B R C shown i st)
-below-after B R C shown i st h = go (closedAt shown i) (eqb (faceAt B i) 0) refl refl
-  where
-    go : (a b : Bool) → closedAt shown i ≡ a → eqb (faceAt B i) 0 ≡ b → Below (length shown) (stackAfter B R C shown i st)
-    go true true e f =
-        rw (stack-zero B R C shown i st e (eqb-true _ _ f))
-        (pushed-below R C (length shown) (closedAt (set shown i 0)) i 8 st (λ q c. rw (length-set shown i 0) at (closed-in (set shown i 0) q c)) h)
-    go true false e f = rw (stack-number B R C shown i st (eqb-false _ _ f)) h
-    go false b e f = rw (stack-shut B R C shown i st e) h

@@ -1,6 +1,6 @@
 -- Opening opens exactly the reached cells, and that says all of its outcome.
 use mathlib.Core.Path.{_≡_, refl, ap, ap₂, sym, _∙_}
-use mathlib.Core.Bool.{Bool, true, false, false≢true, true≢false}
+use mathlib.Core.Bool.{Bool, true, false, false≢true}
 use mathlib.Core.List.{List, [], _∷_}
 use mathlib.Core.Logic.{_⊎_, inl, inr, ⊎-elim}
 use Prim.Native.Nat.{ℕ, zero, suc, _+_, _*_, _<_, _≤_}
@@ -10,16 +10,16 @@ use lib.Dec.{eqb}
 use lib.ListN.{length, getD, set}
 use lib.Seq.{ext-getD}
 use lib.IntN.{ℤ}
-use Rattle.rules.specs.Grid.{neighbour, pushed}
+use Rattle.rules.specs.Grid.{neighbour}
 use Rattle.rules.specs.Board.{faceAt, mineAt}
 use Rattle.rules.specs.Opening.{closedAt, shownAfter, stackAfter, hitAfter, run, turns, Opened}
 use Rattle.rules.specs.Lawful.{countShown, shows}
 use Rattle.cells.specs.Ground.{Valued}
 use Rattle.opening.specs.Changed.{In}
 use Rattle.opening.specs.Reach.{Reached, start, spread, Opens, Exact}
-use Rattle.opening.proofs.Lists.{neighbour-pushed, all-pushed}
+use Rattle.opening.proofs.Lists.{false-unless, neighbour-pushed, all-pushed}
 use Rattle.opening.proofs.Cases.{shown-open, shown-shut, stack-zero, stack-number, stack-shut, hit-mine, hit-safe, hit-shut, hit-stays}
-use Rattle.opening.proofs.Cost.{face-ne, closed-most, Cheaper, cheaper, length-after}
+use Rattle.opening.proofs.Cost.{face-ne, closed-most, cheaper, length-after}
 use Rattle.opening.proofs.Opening.{after-opens, after-other, turn-opens, opens-join, in-after, run-due}
 
 -- ---- one outcome --------------------------------------------------------------------------------------------------------------------------
@@ -53,6 +53,15 @@ pub closed-was : (B : List ℤ) → Valued B → (shown shown′ : List ℕ) (i 
 closed-was B v shown shown′ i (inl p) e = ap (λ (x : ℕ). eqb x 10) (sym p) ∙ e
 closed-was B v shown shown′ i (inr p) e = eq-eqb _ _ (p .0)
 
+-- a cell that was closed and is not after a turn was closed at the turn and is the turn's cell, or it was open before
+pub turned : (B : List ℤ) (shown : List ℕ) (c i : ℕ) → closedAt (shownAfter B shown c) i ≡ false → (closedAt shown i ≡ false) ⊎ ((i ≡ c) × (closedAt shown c ≡ true))
+turned B shown c i f = go (closedAt shown i) (eqb i c) refl refl
+  where
+    go : (a b : Bool) → closedAt shown i ≡ a → eqb i c ≡ b → (closedAt shown i ≡ false) ⊎ ((i ≡ c) × (closedAt shown c ≡ true))
+    go false b e d = inl e
+    go true true e d = inr (eqb-true i c d, ap (closedAt shown) (sym (eqb-true i c d)) ∙ e)
+    go true false e d = absurd (false≢true (sym f ∙ (ap (λ (x : ℕ). eqb x 10) (after-other B shown c i (eqb-false i c d)) ∙ e)))
+
 module _ (B : List ℤ) (R C : ℕ) (v : Valued B) (given shown₀ : List ℕ) where
   -- only reached cells are open that were closed, and a mine was hit exactly if one of them is a mine
   pub record Sure (shown : List ℕ) (hit : Bool) : Type 0 where
@@ -72,23 +81,14 @@ module _ (B : List ℤ) (R C : ℕ) (v : Valued B) (given shown₀ : List ℕ) w
         hits = λ i e f. absurd (false≢true (sym f ∙ e));
       }
 
-  -- a cell that was closed and is not after a turn was closed at the turn and is the turn's cell, or it was open before
-  turned : (shown : List ℕ) (c i : ℕ) → closedAt (shownAfter B shown c) i ≡ false → (closedAt shown i ≡ false) ⊎ ((i ≡ c) × (closedAt shown c ≡ true))
-  turned shown c i f = go (closedAt shown i) (eqb i c) refl refl
-    where
-      go : (a b : Bool) → closedAt shown i ≡ a → eqb i c ≡ b → (closedAt shown i ≡ false) ⊎ ((i ≡ c) × (closedAt shown c ≡ true))
-      go false b e d = inl e
-      go true true e d = inr (eqb-true i c d, ap (closedAt shown) (sym (eqb-true i c d)) ∙ e)
-      go true false e d = absurd (false≢true (sym f ∙ (ap (λ (x : ℕ). eqb x 10) (after-other B shown c i (eqb-false i c d)) ∙ e)))
-
   pub sure-turn : (shown : List ℕ) (hit : Bool) (c : ℕ) → Sure shown hit → (closedAt shown c ≡ true → Reached B R C given shown₀ c) → Sure (shownAfter B shown c) (hitAfter B shown c hit)
   sure-turn shown hit c s r =
       record {
         long = length-after B shown c ∙ s .long;
         opens = λ i. opens-join B shown₀ shown (shownAfter B shown c) i (s .opens i) (turn-opens B shown c i);
-        sound = λ i e f. ⊎-elim (λ o. s .sound i e o) (λ o. rw (o .0) (r (o .1))) (turned shown c i f);
+        sound = λ i e f. ⊎-elim (λ o. s .sound i e o) (λ o. rw (o .0) (r (o .1))) (turned B shown c i f);
         struck = λ h. go (closedAt shown c) (mineAt B c) refl refl h;
-        hits = λ i e f m. ⊎-elim (λ o. ap (hitAfter B shown c) (s .hits i e o m) ∙ hit-stays B shown c) (λ o. hit-mine B R C shown c hit (o .1) (ap (mineAt B) (sym (o .0)) ∙ m)) (turned shown c i f);
+        hits = λ i e f m. ⊎-elim (λ o. ap (hitAfter B shown c) (s .hits i e o m) ∙ hit-stays B shown c) (λ o. hit-mine B R C shown c hit (o .1) (ap (mineAt B) (sym (o .0)) ∙ m)) (turned B shown c i f);
       }
     where
       go : (a b : Bool) → closedAt shown c ≡ a → mineAt B c ≡ b → hitAfter B shown c hit ≡ true → (i : ℕ) × (Reached B R C given shown₀ i × (mineAt B i ≡ true))
@@ -184,17 +184,13 @@ module _ (B : List ℤ) (R C : ℕ) (v : Valued B) (given shown₀ : List ℕ) w
       run-waiting f (stackAfter B R C shown c st) (shownAfter B shown c) (hitAfter B shown c hit)
       (let ch = cheaper B R C shown c st v in omega (arith, ch .fuel)) (waiting-after shown c st w)
 
-  not-closed : (b : Bool) → (b ≡ true → ⊥) → b ≡ false
-  not-closed true n = absurd (n refl)
-  not-closed false n = refl
-
   -- THE RUN IS EXACT
   pub run-exact : length shown₀ ≡ R * C → length given ≤ 8 → Exact B R C given shown₀ (run B R C (turns (R * C)) given shown₀ false)
   run-exact long few =
       exact-of B R C v given shown₀ (run B R C (turns (R * C)) given shown₀ false)
       (run-sure (turns (R * C)) given shown₀ false (sure-start B R C v given shown₀) (λ x i e. start i e))
       (λ q i e. ne-eqb _ _ (λ t. face-ne B v q 10 (omega arith) (omega arith) (sym (run-due B R C v q (turns (R * C)) given shown₀ false room (inr (e, i)) .0) ∙ t)))
-      (λ c e o z k lt. not-closed _ (λ t. run-waiting (turns (R * C)) given shown₀ false room (λ x e o. absurd (false≢true (sym o ∙ e))) c e o z k lt t))
+      (λ c e o z k lt. false-unless _ (λ t. run-waiting (turns (R * C)) given shown₀ false room (λ x e o. absurd (false≢true (sym o ∙ e))) c e o z k lt t))
     where
       room : length given + 8 * countShown (shows 10) shown₀ ≤ turns (R * C)
       room = let m = closed-most shown₀ in omega arith

@@ -1,7 +1,7 @@
 -- The stack never holds more than 7 × cells + 8.
-use mathlib.Core.Path.{_≡_, refl, ap, sym, _∙_}
+use mathlib.Core.Path.{_≡_}
 use mathlib.Core.List.{List, [], _∷_}
-use Prim.Native.Nat.{ℕ, zero, suc, _+_, _*_, _<_, _≤_, max}
+use Prim.Native.Nat.{ℕ, zero, suc, _+_, _*_, _≤_}
 use native.Mathlib.Omega.{arith}
 use lib.ListN.{length}
 use lib.IntN.{ℤ}
@@ -9,7 +9,7 @@ use Rattle.rules.specs.Opening.{shownAfter, stackAfter, turns}
 use Rattle.rules.specs.Lawful.{countShown, shows}
 use Rattle.cells.specs.Ground.{Valued}
 use Rattle.opening.specs.Rust.{highest}
-use Rattle.opening.proofs.Cost.{closed-most, Cheaper, cheaper}
+use Rattle.opening.proofs.Cost.{closed-most, cheaper}
 
 highest-most : (B : List ℤ) (R C : ℕ) → Valued B → (m f : ℕ) (st shown : List ℕ) → length st + 7 * countShown (shows 10) shown ≤ m → highest B R C f st shown ≤ m
 unfolding highest

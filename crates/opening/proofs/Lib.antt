@@ -2,10 +2,10 @@ pub mod Lists
 pub mod Cases
 pub mod Cost
 pub mod Opening
-pub mod Stack
-pub mod Turning
+pub mod Highest
+pub mod RustSame
+pub mod Exact
+pub mod Quick
+pub mod Touching
 pub mod Going
 pub mod Refresh
-pub mod RustSame
-pub mod Highest
-pub mod Exact

@@ -1,13 +1,13 @@
 -- Laws of counting, of stored lists, and of cells on a stack.
-use mathlib.Core.Path.{_≡_, refl, ap, ap₂, sym, _∙_}
-use mathlib.Core.Bool.{Bool, true, false, _&&_, _||_, false≢true}
-use mathlib.Core.List.{List, [], _∷_}
-use mathlib.Core.Logic.{_⊎_, inl, inr, ⊎-elim}
+use mathlib.Core.Path.{_≡_, refl, ap, sym, _∙_}
+use mathlib.Core.Bool.{Bool, true, false, false≢true}
+use mathlib.Core.List.{List}
+use mathlib.Core.Logic.{inl, inr, ⊎-elim}
 use Prim.Native.Nat.{ℕ, zero, suc, _+_, _*_, _/_, _%_, _<_, _≤_}
 use native.Mathlib.Nat.{div-lt-iff-lt-mul, mod-lt}
 use native.Mathlib.Omega.{arith}
 use borrow.Author.Tests.{eqb-true, eqb-false}
-use lib.Dec.{eqb, ltb}
+use lib.Dec.{eqb}
 use lib.ListN.{length, getD, set, length-set}
 use lib.Seq.{getD-set-same, getD-set-other}
 use Rattle.rules.specs.Lawful.{countShown}
@@ -16,6 +16,10 @@ use Rattle.rules.specs.Grid.{neighbour, pushIf, pushed}
 use Rattle.cells.proofs.Words.{count-le, count-mono, count-change}
 use Rattle.cells.proofs.Grid.{pushed-length}
 use Rattle.opening.specs.Changed.{In}
+
+pub false-unless : (b : Bool) → (b ≡ true → ⊥) → b ≡ false
+false-unless true n = absurd (n refl)
+false-unless false n = refl
 
 -- what adds up at each place adds up
 pub count-sum : (f g f′ g′ : ℕ → Bool) (n : ℕ) → ((i : ℕ) → i < n → bit (f i) + bit (g i) ≡ bit (f′ i) + bit (g′ i)) → count f n + count g n ≡ count f′ n + count g′ n
@@ -85,7 +89,7 @@ pub countShown-set : (f : ℕ → Bool) (shown : List ℕ) (i v : ℕ) → i < l
 unfolding countShown
 countShown-set f shown i v h =
     let n : count (λ j. f (getD (set shown i v) j 0)) (length (set shown i v)) ≡ count (λ j. f (getD (set shown i v) j 0)) (length shown) =
-        ap (count (λ j. f (getD (set shown i v) j 0))) (length-set shown i v) in
+    ap (count (λ j. f (getD (set shown i v) j 0))) (length-set shown i v) in
     let e : f (getD (set shown i v) i 0) ≡ f v = ap f (getD-set-same shown i v 0 h) in
     let c = count-change (λ j. f (getD shown j 0)) (λ j. f (getD (set shown i v) j 0)) i (λ j d. ap f (getD-set-other shown i j v 0 d)) (length shown) h in
     let b : bit (f (getD (set shown i v) i 0)) ≡ bit (f v) = ap bit e in

@@ -1,18 +1,18 @@
 -- Laws of opening: what it may do to a cell, that it opens the given cells, and when a mine is hit.
 use mathlib.Core.Path.{_≡_, refl, ap, sym, _∙_}
-use mathlib.Core.Bool.{Bool, true, false, not, _&&_, _||_, false≢true, true≢false}
+use mathlib.Core.Bool.{Bool, true, false, not, _&&_, _||_, false≢true}
 use mathlib.Core.List.{List, [], _∷_}
 use mathlib.Core.Logic.{_⊎_, inl, inr, ⊎-elim}
-use Prim.Native.Nat.{ℕ, zero, suc, _+_, _-_, _*_, _<_, _≤_}
+use Prim.Native.Nat.{ℕ, zero, suc, _+_, _*_, _<_, _≤_}
 use native.Mathlib.Omega.{arith}
 use borrow.Author.Tests.{eqb-true, eqb-false, eq-eqb, ne-eqb, le-leb}
-use lib.Dec.{eqb, ltb, leb}
-use lib.ListN.{length, getD, set, length-set, List·getD-eq-default}
+use lib.Dec.{eqb}
+use lib.ListN.{length, getD, set, length-set}
 use lib.Seq.{getD-set-same, getD-set-other}
-use lib.IntN.{ℤ, pos}
-use Rattle.rules.specs.Words.{pick, bit, count, every}
-use Rattle.rules.specs.Grid.{neighbour, around, pushed}
-use Rattle.rules.specs.Board.{faceAt, mineAt, valuesOk, numberOk, numbersOk}
+use lib.IntN.{ℤ}
+use Rattle.rules.specs.Words.{pick, bit, count}
+use Rattle.rules.specs.Grid.{neighbour, around}
+use Rattle.rules.specs.Board.{faceAt, mineAt, numberOk, numbersOk}
 use Rattle.rules.specs.Opening.{closedAt, shownAfter, stackAfter, hitAfter, run, turns, Opened, wrongFlag, crossed, crossedIfHit, refreshed}
 use Rattle.rules.specs.Lawful.{countShown, shows, isOpenOrHit, isFlag}
 use Rattle.opening.specs.Changed.{In, Changed, kept, opened, wrong}
@@ -21,7 +21,7 @@ use Rattle.cells.specs.Ground.{Valued}
 use Rattle.cells.proofs.Words.{every-at, count-none, count-same}
 use Rattle.opening.proofs.Lists.{count-less, count-sum, in-pushed, all-pushed}
 use Rattle.opening.proofs.Cases.{closed-in, shown-open, shown-shut, stack-zero, stack-number, stack-shut, hit-mine, hit-safe, hit-shut, hit-stays}
-use Rattle.opening.proofs.Cost.{face-range, face-ne, closed-most, Cheaper, cheaper, length-after}
+use Rattle.opening.proofs.Cost.{face-range, face-ne, closed-most, cheaper, length-after}
 
 -- ---- a turn, and the run of the stack -----------------------------------------------------------------------------------------------------
 
@@ -192,9 +192,16 @@ module _ (B : List ℤ) (R C : ℕ) where
 
       at : (i : ℕ) × ((i < length (run B R C (turns (R * C)) given shown false .shown)) × ((mineAt B i ≡ true) × (getD (run B R C (turns (R * C)) given shown false .shown) i 0 ≡ 15)))
           → (i : ℕ) × ((i < length shown) × ((mineAt B i ≡ true) × (getD (crossedIfHit B (run B R C (turns (R * C)) given shown false) .shown) i 0 ≡ 15)))
-      at p =
-          (p .0, (rw (run-length B R C (turns (R * C)) given shown false) at (p .1 .0), (p .1 .1 .0,
-          ⊎-elim (λ q. q ∙ p .1 .1 .1) (λ q. absurd (let a = q .1 .1 .0 in let b = p .1 .1 .1 in omega arith)) (settled-crosses B (run B R C (turns (R * C)) given shown false) (p .0)))))
+      at p = (
+        p .0,
+        (
+          rw (run-length B R C (turns (R * C)) given shown false) at (p .1 .0),
+          (
+            p .1 .1 .0,
+            ⊎-elim (λ q. q ∙ p .1 .1 .1) (λ q. absurd (let a = q .1 .1 .0 in let b = p .1 .1 .1 in omega arith)) (settled-crosses B (run B R C (turns (R * C)) given shown false) (p .0)),
+          ),
+        ),
+      )
 
 -- ---- the given cells ----------------------------------------------------------------------------------------------------------------------
 

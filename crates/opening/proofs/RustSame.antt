@@ -1,19 +1,19 @@
 -- The Rust's loop has the same outcome: an open 0 on top of the stack has no closed neighbour, so its second opening changes nothing.
-use mathlib.Core.Path.{_≡_, refl, ap, ap₂, sym, _∙_}
-use mathlib.Core.Bool.{Bool, true, false, _&&_, _||_, true≢false, false≢true, or-true}
+use mathlib.Core.Path.{_≡_, refl, ap, sym, _∙_}
+use mathlib.Core.Bool.{Bool, true, false, _||_, false≢true, or-true}
 use mathlib.Core.List.{List, [], _∷_}
-use mathlib.Core.Logic.{_⊎_, inl, inr, ⊎-elim}
-use Prim.Native.Nat.{ℕ, zero, suc, _+_, _-_, _*_, _<_, _≤_}
+use mathlib.Core.Logic.{inl, inr, ⊎-elim}
+use Prim.Native.Nat.{ℕ, zero, suc, _*_, _<_}
 use native.Mathlib.Omega.{arith}
-use borrow.Author.Tests.{eqb-true, eqb-false, eq-eqb, ne-eqb}
+use borrow.Author.Tests.{eqb-true, eqb-false, eq-eqb}
 use lib.Dec.{eqb}
-use lib.ListN.{length, getD, set, length-set}
+use lib.ListN.{length, getD, set}
 use lib.Seq.{getD-set-same, getD-set-other, set-getD}
-use lib.IntN.{ℤ, pos}
+use lib.IntN.{ℤ}
 use Rattle.rules.specs.Words.{pick}
 use Rattle.rules.specs.Grid.{neighbour, pushIf, pushed}
-use Rattle.rules.specs.Board.{faceAt, mineAt}
-use Rattle.rules.specs.Opening.{closedAt, shownAfter, stackAfter, hitAfter, run, turns, Opened}
+use Rattle.rules.specs.Board.{faceAt}
+use Rattle.rules.specs.Opening.{closedAt, shownAfter, stackAfter, hitAfter, run, turns}
 use Rattle.cells.specs.Ground.{Valued}
 use Rattle.opening.specs.Changed.{In}
 use Rattle.opening.specs.Rust.{rustStack, rustRun}

@@ -1,5 +1,5 @@
 -- The loop as the Rust has it: a cell taken off the stack is opened again even where it is open. And how high the stack gets.
-use mathlib.Core.Bool.{Bool, true, false, _||_}
+use mathlib.Core.Bool.{Bool, _||_}
 use mathlib.Core.List.{List, [], _∷_}
 use Prim.Native.Nat.{ℕ, zero, suc, max}
 use lib.Dec.{eqb}

@@ -1,17 +1,25 @@
-// Opening cells: `refresh_board` over flat lent slices, with the lent work as its stack.
-// The contracts cite rules' Opening and specs/Parts; the laws of opening stand in proofs/Opening.
+// Opening cells: `refresh_board` over flat lent slices, with the lent work as its stack. A cell is opened when it is found, and only a 0 goes on
+// the stack: specs/Quick says so, and proofs/Quick that the outcome is that of rules' Opening. The laws of opening stand in proofs/Opening.
 ghost use mathlib.Core.Path.{_≡_};
 ghost use mathlib.Core.Bool.{Bool, true, false};
-ghost use mathlib.Core.List.{List};
+ghost use mathlib.Core.List.{List, []};
 ghost use Prim.Native.Nat.{ℕ, _+_, _-_, _*_, _<_, _≤_};
 ghost use lib.ListN.{length, getD, set};
 ghost use Rattle.rules.specs.Words.{stackOf};
-ghost use Rattle.rules.specs.Grid.{cellOf, pushIf, pushed};
+ghost use Rattle.rules.specs.Grid.{cellOf};
 ghost use Rattle.rules.specs.Board.{faceAt};
 ghost use Rattle.rules.specs.Lent.{workRoom};
 ghost use Rattle.rules.specs.Opening.{closedAt, wrongFlag, crossed};
-ghost use Rattle.cells.specs.Ground.{Sized, Valued, Fitting, Zeros, Below};
-ghost use Rattle.opening.specs.Parts.{Spare, Grown, Turned, Worked, Laid, Refreshed};
+ghost use Rattle.rules.specs.Lawful.{countShown, shows};
+ghost use Rattle.cells.specs.Ground.{Valued, Fitting, Zeros, Below};
+ghost use Rattle.opening.specs.Quick.{front, touched, touchedAround, touchedAll};
+ghost use Rattle.opening.specs.Parts.{Spare, Roomy, Seated, Moved, Worked, Refreshed};
+
+// Where the stack's top is, and whether a mine was hit.
+pub struct Turn {
+    pub top: usize,
+    pub hit: bool,
+}
 
 // The cell shows 10; off the board nothing does.
 fn closed(shown: &[u8], q: usize) -> bool
@@ -25,137 +33,119 @@ fn closed(shown: &[u8], q: usize) -> bool
     false
 }
 
-// Pushes q if it is closed.
-fn push_closed(shown: &[u8], work: &mut [u16], top: usize, q: usize) -> usize
-    requires { ⌜ top < length (now work) ⌝ }
-    requires { ⌜ q ≤ 2048 ⌝ }
-    ensures { λ r. ⌜ Grown (now (work .entry)) top 1 (pushIf (closedAt (now (shown .entry)) q) q (stackOf (now (work .entry)) top)) (now (work .exit)) r ⌝ }
+// Opens a cell if it is closed; a 0 goes on the stack.
+fn touch(mines: &[i8], shown: &mut [u8], work: &mut [u16], q: usize, past: Turn) -> Turn
+    requires { ⌜ Roomy (now mines) (now shown) (now work) (past .top) ⌝ }
+    ensures { λ r. ⌜ Moved (touched (now (mines .entry)) q (front (stackOf (now (work .entry)) (past .top)) (now (shown .entry)) (past .hit))) (now (work .entry)) (past .top) (now (shown .exit)) (now (work .exit)) (r .top) (r .hit) ⌝ }
 {
     if closed(shown, q) {
-        work[top] = q as u16;
-        return top + 1;
+        let v = cells::face_at(mines, q);
+        shown[q] = v;
+        let top = past.top;
+        if v == 0 {
+            work[top] = q as u16;
+            return Turn {
+                top: top + 1,
+                hit: past.hit,
+            };
+        }
+        if v == 15 {
+            return Turn { top, hit: true };
+        }
     }
-    top
+    past
 }
 
-// Pushes the closed neighbours of the cell at a row and a column.
-fn push_around(
-    shown: &[u8],
+// Touches the neighbours of the cell at a row and a column.
+fn touch_around(
+    mines: &[i8],
+    shown: &mut [u8],
     work: &mut [u16],
     rows: usize,
     columns: usize,
     row: usize,
     column: usize,
-    top: usize,
-) -> usize
-    requires { ⌜ Sized rows columns ⌝ }
+    past: Turn,
+) -> Turn
+    requires { ⌜ Seated (now mines) rows columns (now shown) (now work) (past .top) ⌝ }
     requires { ⌜ (row < rows) × (column < columns) ⌝ }
-    requires { ⌜ top + 8 ≤ length (now work) ⌝ }
-    ensures { λ r. ⌜ Grown (now (work .entry)) top 8 (pushed rows columns (closedAt (now (shown .entry))) (cellOf columns row column) 8 (stackOf (now (work .entry)) top)) (now (work .exit)) r ⌝ }
+    ensures { λ r. ⌜ Moved (touchedAround (now (mines .entry)) rows columns (cellOf columns row column) 8 (front (stackOf (now (work .entry)) (past .top)) (now (shown .entry)) (past .hit))) (now (work .entry)) (past .top) (now (shown .exit)) (now (work .exit)) (r .top) (r .hit) ⌝ }
 {
-    let mut t = top;
+    let mut turn = past;
     for k in 0..8 {
         let q = cells::neighbour_at(rows, columns, row, column, k);
-        t = push_closed(shown, work, t, q);
+        turn = touch(mines, shown, work, q, turn);
     }
-    t
+    turn
 }
 
-// Where the stack's top is, and whether a mine was hit.
-pub struct Turn {
-    pub top: usize,
-    pub hit: bool,
-}
-
-// Opens a closed cell; a 0 has its closed neighbours pushed.
-fn open_closed(
+// Takes the top 0 off the stack and touches its neighbours.
+fn spread_top(
     mines: &[i8],
     shown: &mut [u8],
     work: &mut [u16],
     rows: usize,
     columns: usize,
-    cell: usize,
-    top: usize,
-    hit: bool,
+    past: Turn,
 ) -> Turn
-    requires { ⌜ Fitting (now mines) (now shown) (now work) rows columns ⌝ }
-    requires { ⌜ cell < rows * columns ⌝ }
-    requires { ⌜ closedAt (now shown) cell ≡ true ⌝ }
-    requires { ⌜ top + 8 ≤ length (now work) ⌝ }
-    ensures { λ r. ⌜ Turned (now (mines .entry)) rows columns cell top (now (shown .entry)) (now (work .entry)) hit (now (shown .exit)) (now (work .exit)) (r .top) (r .hit) ⌝ }
+    requires { ⌜ Seated (now mines) rows columns (now shown) (now work) (past .top) ⌝ }
+    requires { ⌜ 0 < past .top ⌝ }
+    requires { ⌜ getD (now work) (past .top - 1) 0 < rows * columns ⌝ }
+    ensures { λ r. ⌜ Moved (touchedAround (now (mines .entry)) rows columns (getD (now (work .entry)) (past .top - 1) 0) 8 (front (stackOf (set (now (work .entry)) (past .top - 1) 0) (past .top - 1)) (now (shown .entry)) (past .hit))) (set (now (work .entry)) (past .top - 1) 0) (past .top - 1) (now (shown .exit)) (now (work .exit)) (r .top) (r .hit) ⌝ }
 {
-    let v = cells::face_at(mines, cell);
-    shown[cell] = v;
-    if v == 0 {
-        let t = push_around(shown, work, rows, columns, cell / columns, cell % columns, top);
-        return Turn { top: t, hit };
-    }
-    if v == 15 {
-        return Turn { top, hit: true };
-    }
-    Turn { top, hit }
-}
-
-// Takes the top cell off the stack and works it off; one that no longer shows 10 changes nothing.
-fn open_top(
-    mines: &[i8],
-    shown: &mut [u8],
-    work: &mut [u16],
-    rows: usize,
-    columns: usize,
-    top: usize,
-    hit: bool,
-) -> Turn
-    requires { ⌜ Fitting (now mines) (now shown) (now work) rows columns ⌝ }
-    requires { ⌜ 0 < top ⌝ }
-    requires { ⌜ top ≤ length (now work) ⌝ }
-    requires { ⌜ (closedAt (now shown) (getD (now work) (top - 1) 0) ≡ true → top + 7 ≤ length (now work)) ⌝ }
-    requires { ⌜ getD (now work) (top - 1) 0 < rows * columns ⌝ }
-    ensures { λ r. ⌜ Turned (now (mines .entry)) rows columns (getD (now (work .entry)) (top - 1) 0) (top - 1) (now (shown .entry)) (set (now (work .entry)) (top - 1) 0) hit (now (shown .exit)) (now (work .exit)) (r .top) (r .hit) ⌝ }
-{
-    let at = top - 1;
+    let at = past.top - 1;
     let cell = work[at] as usize;
     work[at] = 0;
-    if closed(shown, cell) {
-        return open_closed(mines, shown, work, rows, columns, cell, at, hit);
-    }
-    Turn { top: at, hit }
+    let turn = Turn {
+        top: at,
+        hit: past.hit,
+    };
+    touch_around(
+        mines,
+        shown,
+        work,
+        rows,
+        columns,
+        cell / columns,
+        cell % columns,
+        turn,
+    )
 }
 
-// Works the stack of n cells off.
+// Works the stack off.
 fn work_off(
     mines: &[i8],
     shown: &mut [u8],
     work: &mut [u16],
     rows: usize,
     columns: usize,
-    n: usize,
+    past: Turn,
 ) -> bool
     requires { ⌜ Fitting (now mines) (now shown) (now work) rows columns ⌝ }
-    requires { ⌜ n ≤ 8 ⌝ }
-    requires { ⌜ Below (rows * columns) (stackOf (now work) n) ⌝ }
-    requires { ⌜ Spare n (workRoom (rows * columns)) (now work) ⌝ }
-    ensures { λ r. ⌜ Worked (now (mines .entry)) rows columns n (now (shown .entry)) (now (work .entry)) (now (shown .exit)) (now (work .exit)) r ⌝ }
+    requires { ⌜ past .top + countShown (shows 10) (now shown) ≤ rows * columns ⌝ }
+    requires { ⌜ Below (rows * columns) (stackOf (now work) (past .top)) ⌝ }
+    requires { ⌜ Spare (past .top) (workRoom (rows * columns)) (now work) ⌝ }
+    ensures { λ r. ⌜ Worked (now (mines .entry)) rows columns (past .top) (now (shown .entry)) (now (work .entry)) (past .hit) (now (shown .exit)) (now (work .exit)) r ⌝ }
 {
-    let mut top = n;
-    let mut hit = false;
-    while 0 < top {
-        let t = open_top(mines, shown, work, rows, columns, top, hit);
-        top = t.top;
-        hit = t.hit;
+    let mut turn = past;
+    while 0 < turn.top {
+        turn = spread_top(mines, shown, work, rows, columns, turn);
     }
-    hit
+    turn.hit
 }
 
-// Lays the given cells on the empty stack.
-fn lay(work: &mut [u16], given: [u16; 8], n: usize)
+// Touches the given cells.
+fn touch_given(mines: &[i8], shown: &mut [u8], work: &mut [u16], given: [u16; 8], n: usize) -> Turn
+    requires { ⌜ Roomy (now mines) (now shown) (now work) 0 ⌝ }
     requires { ⌜ n ≤ 8 ⌝ }
-    requires { ⌜ 8 ≤ length (now work) ⌝ }
-    ensures { λ _. ⌜ Laid given (now (work .entry)) (now (work .exit)) n ⌝ }
+    ensures { λ r. ⌜ Moved (touchedAll (now (mines .entry)) (stackOf given n) (front [] (now (shown .entry)) false)) (now (work .entry)) 0 (now (shown .exit)) (now (work .exit)) (r .top) (r .hit) ⌝ }
 {
+    let mut turn = Turn { top: 0, hit: false };
     for i in 0..n {
-        work[i] = given[i];
+        let q = given[i] as usize;
+        turn = touch(mines, shown, work, q, turn);
     }
+    turn
 }
 
 // A flag on a safe cell becomes a wrong flag.
@@ -203,8 +193,8 @@ pub fn refresh_board(
 {
     let given = cells.at;
     let n = cells.n;
-    lay(work, given, n);
-    let hit = work_off(mines, shown, work, rows, columns, n);
+    let turn = touch_given(mines, shown, work, given, n);
+    let hit = work_off(mines, shown, work, rows, columns, turn);
     if hit {
         cross_flags(mines, shown);
     }

@@ -1,8 +1,7 @@
 -- `opening::cross_flag` meets its contract: at each `return` the tests that led there say what the flag becomes. Assumes nothing.
 use Rattle.rules.specs.Board.{faceAt}
 use borrow.Author.Tests.{eq-eqb, ne-eqb}
-use mathlib.Core.Path.{_∙_, ap, sym}
-use native.Mathlib.Omega.{arith}
+use mathlib.Core.Path.{_∙_, sym}
 use Rattle.opening.proofs.Refresh.{cross-safe, cross-mine, cross-none}
 use borrow.Author.Needs.{needs}
 use Rattle.opening.proofs.cross_flag.Statement.{statement}

@@ -1,0 +1,5 @@
+pub mod Cases
+pub mod Gather
+pub mod Ends
+pub mod Steps
+pub mod Chord
