@@ -1,0 +1,6 @@
+pub mod Putting
+pub mod Decimal
+pub mod Lines
+pub mod Lengths
+pub mod Rows
+pub mod Printed
