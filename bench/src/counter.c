@@ -1,0 +1,14 @@
+// Callgrind's switch: what runs between the two calls is counted, and its sum written to a file under a name.
+#include <valgrind/callgrind.h>
+
+void counter_start(void)
+{
+    CALLGRIND_ZERO_STATS;
+    CALLGRIND_TOGGLE_COLLECT;
+}
+
+void counter_stop(const char *name)
+{
+    CALLGRIND_TOGGLE_COLLECT;
+    CALLGRIND_DUMP_STATS_AT(name);
+}

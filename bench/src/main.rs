@@ -1,0 +1,19 @@
+// The rows of the bench, each played by the Rust and by the library in this one process; bench/run builds and reads it.
+mod boards;
+mod library;
+mod measure;
+mod opening;
+
+use measure::Way;
+
+fn main() {
+    let way = match std::env::args().nth(1).as_deref() {
+        Some("instructions") => Way::Instructions,
+        Some("time") => Way::Time,
+        _ => {
+            eprintln!("usage: bench instructions (under callgrind, by bench/run) | time");
+            std::process::exit(2);
+        }
+    };
+    opening::rows(way);
+}

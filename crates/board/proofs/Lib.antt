@@ -1,0 +1,5 @@
+pub mod Refusals
+pub mod Making
+pub mod Outcomes
+pub mod Places
+pub mod Stepping

@@ -1,0 +1,127 @@
+-- A step of a lawful game: what playing an event asks, from the lawful position, and one equation for each way a step ends.
+use mathlib.Core.Path.{_≡_, _∙_, sym, ap, refl, subst}
+use mathlib.Core.Bool.{Bool, true, false}
+use mathlib.Core.List.{List}
+use Prim.Native.Nat.{ℕ, suc, _+_, _*_, _<_, _≤_}
+use native.Mathlib.Omega.{arith}
+use native.Mathlib.Decide.{decLt}
+use borrow.Author.Tests.{eq-eqb, ne-eqb}
+use lib.ListN.{length, getD, List·getD-eq-default}
+use lib.IntN.{ℤ}
+use Rattle.rules.specs.declared.Position.{Position}
+use Rattle.rules.specs.declared.Played.{Played}
+use Rattle.rules.specs.declared.Pointer.{Pointer}
+use Rattle.rules.specs.declared.Decoded.{Decoded}
+use Rattle.rules.specs.declared.Decoded.the-variants.{At, Bad}
+use Rattle.rules.specs.declared.Event.{Event}
+use Rattle.rules.specs.declared.GameState.{GameState}
+use Rattle.rules.specs.declared.GameState.the-variants.{PreFlaging}
+use Rattle.rules.specs.declared.MouseState.{MouseState}
+use Rattle.rules.specs.declared.MouseState.the-variants.{UpUp, UpDown, UpDownNotFlag, DownUp, Chording, ChordingNotFlag, DownUpAfterChording}
+use Rattle.rules.specs.Words.{count}
+use Rattle.rules.specs.States.{mouseNumber, isNotFlag, withMiddle, withEvents}
+use Rattle.rules.specs.Clicks.{Desk, Play, desk, done}
+use Rattle.rules.specs.Mouse.{resolved, flipped}
+use Rattle.rules.specs.Step.{eventOf, plainOf, byGame, pointerOf, refusalAt, playAt, stepAt, stepBy, stepOn, mouse}
+use Rattle.rules.specs.Lawful.{countShown, shows}
+use Rattle.cells.proofs.Words.{count-le}
+use Rattle.keep.specs.Kept.{LawfulAt, Inside, InsideOf}
+use Rattle.keep.proofs.Reshow.{flag-has}
+use Rattle.keep.proofs.Room.{sound-small, preflags-has}
+use Rattle.keep.proofs.Step.{event-inside}
+use Rattle.events.specs.Able.{AbleAt}
+use Rattle.game.specs.Core.{Blank}
+
+-- an 11 is shown on the board only
+eleven-in : (shown : List ℕ) (i : ℕ) → getD shown i 0 ≡ 11 → i < length shown
+eleven-in shown i e = go (decLt i (length shown))
+  where
+    go : Dec (i < length shown) → i < length shown
+    go (yes h) = h
+    go (no h) = absurd (let z = List·getD-eq-default {A = ℕ} shown 0 {n = i} (omega arith) in omega arith)
+
+closed-le : (shown : List ℕ) → countShown (shows 10) shown ≤ length shown
+unfolding countShown
+closed-le shown = count-le (λ i. shows 10 (getD shown i 0)) (length shown)
+
+pub able-lawful : (B : List ℤ) (p : Position) (shown bits work : List ℕ) → LawfulAt B (desk p shown bits) → Blank (p .settings) work → AbleAt B p shown bits work
+able-lawful B p shown bits work l b =
+    let h = l .kept .sound in
+    let g = h .ground in
+    let s = sound-small h in
+    let few = l .few in
+    let c = closed-le shown in
+    let z = g .mined .sized .cells in
+    let e = g .board in
+    record {
+      fits = record { mined = g .mined; board = g .board; room = b .room };
+      zeros = b .zeros;
+      bytes = g .room;
+      left = omega (arith, s .left);
+      right = omega (arith, s .right);
+      double = omega (arith, s .double);
+      lce = omega (arith, s .lce);
+      dce = omega (arith, s .dce);
+      rce = omega (arith, s .rce);
+      solvedLeft = omega (arith, s .solved);
+      flag = omega (arith, s .flag);
+      solved = omega (arith, s .solved);
+      flagged = λ i q. flag-has h i (eleven-in shown i q) q;
+    }
+
+five : (m : MouseState) → mouseNumber m ≡ 5 → isNotFlag m ≡ true
+five UpUp e = absurd (omega arith)
+five UpDown e = absurd (omega arith)
+five UpDownNotFlag e = absurd (omega arith)
+five DownUp e = absurd (omega arith)
+five Chording e = absurd (omega arith)
+five ChordingNotFlag e = refl
+five DownUpAfterChording e = absurd (omega arith)
+
+-- what playing an event asks, at the position with its middle flag set
+pub play-needs : (B : List ℤ) (p q : Position) (b : Bool) (code : ℕ) (x : Pointer) (e : Event) (shown bits work : List ℕ)
+    → LawfulAt B (desk p shown bits) → Blank (p .settings) work → Inside (p .settings) x → e ≡ plainOf code x (desk p shown bits) → q ≡ withMiddle p b
+    → AbleAt B q shown bits work × (InsideOf (q .settings) e × ((mouseNumber (q .mouse) ≡ 5 → 1 ≤ q .counts .right)
+    × (q .preflags ≤ 70000 × (q .game ≡ PreFlaging → (i : ℕ) → getD shown i 0 ≡ 11 → 1 ≤ q .preflags))))
+unfolding plainOf
+play-needs B p q b code x e shown bits work l w i d h =
+    let few = l .few in
+    let pre = l .kept .preflags in
+    rw h (
+      able-lawful B p shown bits work l w,
+      (
+        rw d (event-inside (p .settings) (resolved code (mouse (desk p shown bits)) (p .middle)) x i),
+        (
+          (λ m. l .kept .held (five (p .mouse) m)),
+          (
+            omega arith,
+            (λ g j k. preflags-has (l .kept) g j (eleven-in shown j k) k),
+          ),
+        ),
+      ),
+    )
+
+-- an accepted event, resolved, played and counted
+pub played-counts : (B : List ℤ) (p q z : Position) (b : Bool) (code : ℕ) (x : Pointer) (e : Event) (o : Played) (shown bits shown′ bits′ : List ℕ)
+    → e ≡ plainOf code x (desk p shown bits) → b ≡ flipped code (p .middle) → q ≡ withMiddle p b
+    → done (o .answer) (desk (o .position) shown′ bits′) ≡ byGame (q .game) B e (desk q shown bits) → z ≡ withEvents (o .position) (p .events + 1)
+    → done (o .answer) (desk z shown′ bits′) ≡ playAt B code x (desk p shown bits)
+unfolding playAt
+played-counts B p q z b code x e o shown bits shown′ bits′ d f h k t =
+    let g : q .game ≡ p .game = ap (λ (y : Position). y .game) h in
+    rw (t, ← d, ← f, ← h)
+    (ap (λ (s : Play). done (s .answer) (desk (withEvents (s .desk .position) (p .events + 1)) (s .desk .shown) (s .desk .bits)))
+    (k ∙ ap (λ (s : GameState). byGame s B e (desk q shown bits)) g))
+
+module _ (B : List ℤ) (code r c : ℕ) (p : Position) (shown bits : List ℕ) (w : Decoded) (e : w ≡ pointerOf (p .settings) r c) where
+  pub step-bad : w ≡ Bad → done 30 (desk p shown bits) ≡ stepOn B code r c (desk p shown bits)
+  unfolding stepOn stepBy
+  step-bad h = rw (← e, h)
+
+  pub step-refused : (x : Pointer) (n : ℕ) → w ≡ At x → n ≡ refusalAt code x (desk p shown bits) → (n ≡ 0 → ⊥) → done n (desk p shown bits) ≡ stepOn B code r c (desk p shown bits)
+  unfolding stepOn stepBy stepAt
+  step-refused x n h k z = rw (← e, h, ← k, ne-eqb n 0 z)
+
+  pub step-played : (x : Pointer) (n : ℕ) → w ≡ At x → n ≡ refusalAt code x (desk p shown bits) → n ≡ 0 → stepOn B code r c (desk p shown bits) ≡ playAt B code x (desk p shown bits)
+  unfolding stepOn stepBy stepAt
+  step-played x n h k z = rw (← e, h, ← k, eq-eqb n 0 z)

@@ -1,0 +1,206 @@
+-- Which passes follow, and the right click and the chord by hand, from their parts.
+use mathlib.Core.Path.{_≡_, refl, ap, sym, _∙_, subst⁻¹}
+use mathlib.Core.Bool.{Bool, true, false}
+use mathlib.Core.List.{List}
+use Prim.Native.Nat.{ℕ, _+_, _*_, _<_, _≤_}
+use native.Mathlib.Omega.{arith}
+use borrow.Author.Tests.{eq-eqb, ne-eqb}
+use lib.Dec.{eqb}
+use lib.ListN.{length, getD, length-set}
+use lib.IntN.{ℤ}
+use Rattle.rules.specs.declared.Settings.{Settings}
+use Rattle.rules.specs.declared.Counts.{Counts}
+use Rattle.rules.specs.declared.Position.{Position}
+use Rattle.rules.specs.declared.Played.{Played}
+use Rattle.rules.specs.Words.{pick}
+use Rattle.rules.specs.States.{isPlaying, withRight, withDouble, withDce}
+use Rattle.rules.specs.Opening.{refreshed}
+use Rattle.rules.specs.Clicks.{Desk, Play, desk, done, rowsOf, columnsOf, cellsOf, addRight, flagged, takeBack, chordIsUseful, closedAround, chordCounts, chordOpens, performChord}
+use Rattle.rules.specs.Passes.{flagPass, chordPass, bothPass, modeBoth, modeFlag, modeChord, passesAfterFlag, passesAfterChord, rightClick, addDouble, addDce, thenPasses, chordingClick}
+use Rattle.cells.specs.Ground.{Valued}
+use Rattle.opening.proofs.Cost.{closed-set}
+use Rattle.clicks.specs.Room.{Laid, Roomy, Acts, Fell, idle, fell}
+use Rattle.clicks.proofs.Ends.{ending, chord-idle, chord-runs}
+use Rattle.clicks.proofs.Chord.{chord-fell}
+use Rattle.passes.specs.declared.Scanned.{Scanned}
+use Rattle.passes.specs.Passing.{Prepared, RightRoom, ChordRoom, Leaves, Scans, counted}
+use Rattle.passes.proofs.Flagging.{mark-length}
+use Rattle.passes.proofs.Turns.{Like, like-prepared}
+
+-- ---- which passes follow ---------------------------------------------------------------------------------------------------------------
+
+module _ (B : List ℤ) (d : Desk) where
+  pub flag-over : isPlaying (d .position .game) ≡ false → passesAfterFlag B d ≡ d
+  unfolding passesAfterFlag
+  flag-over e = rw e
+
+  pub flag-both : isPlaying (d .position .game) ≡ true → modeBoth (d .position .settings .mode) ≡ true → passesAfterFlag B d ≡ bothPass B d
+  unfolding passesAfterFlag
+  flag-both e b = simp (e, b)
+
+  pub flag-alone : isPlaying (d .position .game) ≡ true → modeBoth (d .position .settings .mode) ≡ false → modeFlag (d .position .settings .mode) ≡ true → passesAfterFlag B d ≡ flagPass B d
+  unfolding passesAfterFlag
+  flag-alone e b m = simp (e, b, m)
+
+  pub flag-none : isPlaying (d .position .game) ≡ true → modeBoth (d .position .settings .mode) ≡ false → modeFlag (d .position .settings .mode) ≡ false → passesAfterFlag B d ≡ d
+  unfolding passesAfterFlag
+  flag-none e b m = simp (e, b, m)
+
+  pub chord-over : isPlaying (d .position .game) ≡ false → passesAfterChord B d ≡ d
+  unfolding passesAfterChord
+  chord-over e = rw e
+
+  pub chord-both : isPlaying (d .position .game) ≡ true → modeBoth (d .position .settings .mode) ≡ true → passesAfterChord B d ≡ bothPass B d
+  unfolding passesAfterChord
+  chord-both e b = simp (e, b)
+
+  pub chord-alone : isPlaying (d .position .game) ≡ true → modeBoth (d .position .settings .mode) ≡ false → modeChord (d .position .settings .mode) ≡ true → passesAfterChord B d ≡ chordPass B d .desk
+  unfolding passesAfterChord
+  chord-alone e b m = simp (e, b, m)
+
+  pub chord-none : isPlaying (d .position .game) ≡ true → modeBoth (d .position .settings .mode) ≡ false → modeChord (d .position .settings .mode) ≡ false → passesAfterChord B d ≡ d
+  unfolding passesAfterChord
+  chord-none e b m = simp (e, b, m)
+
+-- nothing follows
+pub leaves-none : (d d′ : Desk) (w : List ℕ) → d′ ≡ d → Leaves d d′ w w
+leaves-none d d′ w e = record { outcome = sym e; same = refl }
+
+-- a pass follows
+pub leaves-as : (d x y : Desk) (w w′ : List ℕ) → Leaves d x w w′ → y ≡ x → Leaves d y w w′
+leaves-as d x y w w′ l e = record { outcome = l .outcome ∙ sym e; same = l .same }
+
+pub leaves-scan : (B : List ℤ) (p : Position) (shown bits w : List ℕ) (s : Scanned) (shown′ w′ : List ℕ) (y : Desk) → Scans (λ b. chordPass B (desk p shown b)) w s shown′ w′
+    → y ≡ chordPass B (desk p shown bits) .desk → Leaves (desk (s .position) shown′ bits) y w w′
+leaves-scan B p shown bits w s shown′ w′ y c e = record { outcome = ap (λ x. x .desk) (c .outcome bits) ∙ sym e; same = c .same }
+
+-- ---- right -----------------------------------------------------------------------------------------------------------------------------
+
+module _ (B : List ℤ) (i : ℕ) (p : Position) (shown bits w : List ℕ) (a : Prepared B (desk p shown bits) w) (q : Position) (qe : q ≡ withRight p (p .counts .right + 1)) where
+  asked : desk q shown bits ≡ addRight (desk p shown bits)
+  asked = ap (λ (x : Position). desk x shown bits) qe
+
+  flagged-like : getD shown i 0 ≡ 10 → Like (p .settings) (length bits) (flagged B i (addRight (desk p shown bits)))
+  flagged-like e =
+      let c = closed-set shown i 11 (eq-eqb _ _ e) (λ h. omega arith) in
+      record {
+        sits =
+            record {
+              settings = refl;
+              board = length-set shown i 11 ∙ a .laid .fits .board;
+              room = record { flag = omega (arith, a .room .flag); solved = omega (arith, a .room .solved) };
+            };
+        bytes = mark-length B i bits;
+      }
+
+  -- what the passes ask after the flag
+  pub right-asks : getD shown i 0 ≡ 10 → (d : Desk) → d ≡ flagged B i (desk q shown bits) → Prepared B d w
+  right-asks e d h =
+      like-prepared B (desk p shown bits) d w w a
+      (subst⁻¹ (λ (x : Desk). Like (p .settings) (length bits) x) (h ∙ ap (flagged B i) asked) (flagged-like e)) refl
+
+  pub right-flags : getD shown i 0 ≡ 10 → (d : Desk) → d ≡ flagged B i (desk q shown bits) → (d′ : Desk) (w′ : List ℕ) → Leaves d′ (passesAfterFlag B d) w w′
+      → Leaves (done 1 d′) (rightClick B i (desk p shown bits)) w w′
+  unfolding rightClick
+  right-flags e d h d′ w′ l =
+      record {
+        outcome = rw (eq-eqb _ _ e) (ap (done 1) (l .outcome ∙ ap (passesAfterFlag B) (h ∙ ap (flagged B i) asked)));
+        same = l .same;
+      }
+
+  pub right-takes : (getD shown i 0 ≡ 10 → ⊥) → (o : Play) → o ≡ takeBack i (desk q shown bits) → Leaves o (rightClick B i (desk p shown bits)) w w
+  unfolding rightClick
+  right-takes n o h = record { outcome = rw (ne-eqb _ _ n) (h ∙ ap (takeBack i) asked); same = refl }
+
+  -- a flag is taken back only where one is counted
+  pub right-back : RightRoom p shown i → getD shown i 0 ≡ 11 → 1 ≤ q .counts .flag
+  right-back r e = rw qe (r .back e)
+
+  pub right-room : RightRoom p shown i → (q .counts .flag ≤ 70000) × (q .secrets .rce ≤ 70000)
+  right-room r = rw qe (omega (arith, a .room .flag), r .rce)
+
+-- ---- chord -----------------------------------------------------------------------------------------------------------------------------
+
+-- a chord leaves every count but solved_chord
+performed-counts : (B : List ℤ) (i : ℕ) (d : Desk) → performChord B i d .desk .position .counts ≡ d .position .counts
+unfolding chordOpens
+performed-counts B i d = go (chordIsUseful (rowsOf d) (columnsOf d) (d .shown) i) refl
+  where
+    go : (b : Bool) → chordIsUseful (rowsOf d) (columnsOf d) (d .shown) i ≡ b → performChord B i d .desk .position .counts ≡ d .position .counts
+    go true e =
+        ap (λ (o : Play). o .desk .position .counts) (chord-runs B i d e)
+        ∙ ending B 3 (chordCounts B (closedAround (rowsOf d) (columnsOf d) (d .shown) i) d) (refreshed B (rowsOf d) (columnsOf d) (closedAround (rowsOf d) (columnsOf d) (d .shown) i) (d .shown)) .counts
+    go false e = ap (λ (o : Play). o .desk .position .counts) (chord-idle B i d e)
+
+performed-like : (B : List ℤ) → Valued B → (i : ℕ) (st : Settings) (n : ℕ) (d : Desk) → length (d .shown) ≡ cellsOf d → Like st n d → Like st n (performChord B i d .desk)
+performed-like B v i st n d long l = go (chord-fell B v i d long)
+  where
+    go : Fell d (performChord B i d) → Like st n (performChord B i d .desk)
+    go (idle e) = subst⁻¹ (λ (o : Play). Like st n (o .desk)) e l
+    go (fell a c h t b r) =
+        record { sits = record { settings = t ∙ l .sits .settings; board = h ∙ l .sits .board; room = r (l .sits .room) }; bytes = ap length b ∙ l .bytes }
+
+abbrev withDceOne : Position → Position
+withDceOne p = withDce p (p .counts .dce + 1)
+
+-- dce is no part of what the passes ask
+dce-like : (st : Settings) (n : ℕ) (o : Play) → Like st n (o .desk) → Like st n (addDce o .desk)
+dce-like st n o l = go (eqb (o .answer) 0)
+  where
+    go : (b : Bool) → Like st n (pick {A = Play} b o (done (o .answer) (desk (withDceOne (o .desk .position)) (o .desk .shown) (o .desk .bits))) .desk)
+    go true = l
+    go false = record { sits = record { settings = l .sits .settings; board = l .sits .board; room = record { flag = l .sits .room .flag; solved = l .sits .room .solved } }; bytes = l .bytes }
+
+-- the code's count of a chord by hand
+counted-is : (o : Played) (shown bits : List ℕ) → done (counted o .answer) (desk (counted o .position) shown bits) ≡ addDce (done (o .answer) (desk (o .position) shown bits))
+counted-is o shown bits = go (eqb (o .answer) 0)
+  where
+    go : (b : Bool) →
+        done (pick {A = Played} b o (record { answer = o .answer; position = withDceOne (o .position) }) .answer)
+        (desk (pick {A = Played} b o (record { answer = o .answer; position = withDceOne (o .position) }) .position) shown bits)
+        ≡ pick b (done (o .answer) (desk (o .position) shown bits)) (done (o .answer) (desk (withDceOne (o .position)) shown bits))
+    go true = refl
+    go false = refl
+
+module _ (B : List ℤ) (i : ℕ) (p : Position) (shown bits w : List ℕ) (a : Prepared B (desk p shown bits) w) (q : Position) (qe : q ≡ withDouble p (p .counts .double + 1)) where
+  told : desk q shown bits ≡ addDouble (desk p shown bits)
+  told = ap (λ (x : Position). desk x shown bits) qe
+
+  double-like : Like (p .settings) (length bits) (desk q shown bits)
+  double-like =
+      subst⁻¹ (λ (x : Desk). Like (p .settings) (length bits) x) told
+      (record { sits = record { settings = refl; board = a .laid .fits .board; room = record { flag = a .room .flag; solved = a .room .solved } }; bytes = refl })
+
+  -- what the chord asks
+  pub chord-asks : i < p .settings .rows * p .settings .columns → Laid B q shown w × ((i < q .settings .rows * q .settings .columns) × Roomy q shown)
+  chord-asks h =
+      let l = like-prepared B (desk p shown bits) (desk q shown bits) w w a double-like refl in
+      (l .laid, (rw qe h, l .room))
+
+  module _ (o : Played) (shown′ w′ : List ℕ) (c : Acts (performChord B i) q shown w o shown′ w′) where
+    pub chord-dce : ChordRoom p → o .position .counts .dce ≤ 70000
+    chord-dce r =
+        let e : o .position .counts ≡ q .counts = ap (λ (x : Play). x .desk .position .counts) (c .outcome bits) ∙ performed-counts B i (desk q shown bits) in
+        let f : o .position .counts .dce ≡ p .counts .dce = ap (λ (k : Counts). k .dce) e ∙ ap (λ (x : Position). x .counts .dce) qe in
+        omega (arith, r .dce)
+
+    module _ (t : Played) (te : t ≡ counted o) where
+      counted-outcome : done (t .answer) (desk (t .position) shown′ bits) ≡ addDce (performChord B i (addDouble (desk p shown bits)))
+      counted-outcome =
+          ap (λ (x : Played). done (x .answer) (desk (x .position) shown′ bits)) te ∙ counted-is o shown′ bits
+          ∙ ap addDce (c .outcome bits ∙ ap (performChord B i) told)
+
+      -- what the passes ask after the chord
+      pub chord-then : Prepared B (desk (t .position) shown′ bits) w′
+      chord-then =
+          let m : length shown ≡ q .settings .rows * q .settings .columns = rw qe (a .laid .fits .board) in
+          let l = dce-like (p .settings) (length bits) (performChord B i (desk q shown bits))
+          (performed-like B (a .laid .fits .mined .valued) i (p .settings) (length bits) (desk q shown bits) m double-like) in
+          like-prepared B (desk p shown bits) (desk (t .position) shown′ bits) w w′ a
+          (subst⁻¹ (λ (x : Play). Like (p .settings) (length bits) (x .desk)) (counted-outcome ∙ ap (λ (x : Desk). addDce (performChord B i x)) (sym told)) l) (c .same)
+
+      pub chord-done : (d′ : Desk) (w″ : List ℕ) → Leaves d′ (passesAfterChord B (desk (t .position) shown′ bits)) w′ w″
+          → Leaves (done (t .answer) d′) (chordingClick B i (desk p shown bits)) w w″
+      unfolding chordingClick
+      chord-done d′ w″ l =
+          record { outcome = ap (done (t .answer)) (l .outcome) ∙ ap (thenPasses B) counted-outcome; same = l .same ∙ c .same }
