@@ -5,7 +5,7 @@ use mathlib.Core.List.{List}
 use Prim.Native.Nat.{ℕ, suc, _+_, _*_, _<_, _≤_}
 use native.Mathlib.Omega.{arith}
 use native.Mathlib.Decide.{decLt}
-use borrow.Author.Tests.{eq-eqb, ne-eqb}
+use borrow.Author.Tests.{eq-eqb, ne-eqb, lt-ltb, le-ltb}
 use lib.ListN.{length, getD, List·getD-eq-default}
 use lib.IntN.{ℤ}
 use Rattle.rules.specs.declared.Position.{Position}
@@ -14,15 +14,16 @@ use Rattle.rules.specs.declared.Pointer.{Pointer}
 use Rattle.rules.specs.declared.Decoded.{Decoded}
 use Rattle.rules.specs.declared.Decoded.the-variants.{At, Bad}
 use Rattle.rules.specs.declared.Event.{Event}
+use Rattle.rules.specs.declared.Event.the-variants.{Mv}
 use Rattle.rules.specs.declared.GameState.{GameState}
-use Rattle.rules.specs.declared.GameState.the-variants.{PreFlaging}
+use Rattle.rules.specs.declared.GameState.the-variants.{Ready, Playing, Win, Loss, PreFlaging}
 use Rattle.rules.specs.declared.MouseState.{MouseState}
 use Rattle.rules.specs.declared.MouseState.the-variants.{UpUp, UpDown, UpDownNotFlag, DownUp, Chording, ChordingNotFlag, DownUpAfterChording}
 use Rattle.rules.specs.Words.{count}
 use Rattle.rules.specs.States.{mouseNumber, isNotFlag, withMiddle, withEvents}
 use Rattle.rules.specs.Clicks.{Desk, Play, desk, done}
 use Rattle.rules.specs.Mouse.{resolved, flipped}
-use Rattle.rules.specs.Step.{eventOf, plainOf, byGame, pointerOf, refusalAt, playAt, stepAt, stepBy, stepOn, mouse}
+use Rattle.rules.specs.Step.{eventRefusal, badPreFlag, errsPreFlaging, errsPlaying, ready, preFlaging, playing, eventOf, plainOf, byGame, pointerOf, refusalAt, playAt, stepAt, stepBy, stepOn, mouse}
 use Rattle.rules.specs.Lawful.{countShown, shows}
 use Rattle.cells.proofs.Words.{count-le}
 use Rattle.keep.specs.Kept.{LawfulAt, Inside, InsideOf}
@@ -125,3 +126,41 @@ module _ (B : List ℤ) (code r c : ℕ) (p : Position) (shown bits : List ℕ) 
   pub step-played : (x : Pointer) (n : ℕ) → w ≡ At x → n ≡ refusalAt code x (desk p shown bits) → n ≡ 0 → stepOn B code r c (desk p shown bits) ≡ playAt B code x (desk p shown bits)
   unfolding stepOn stepBy stepAt
   step-played x n h k z = rw (← e, h, ← k, eq-eqb n 0 z)
+
+-- ---- a move ----------------------------------------------------------------------------------------------------------------------------
+
+-- in every game state a move is accepted, answers 0 and changes nothing
+move-heard : (g : GameState) (x : Pointer) (d : Desk) → eventRefusal g (Mv x) d ≡ 0
+unfolding eventRefusal badPreFlag errsPreFlaging errsPlaying
+move-heard Ready x d = refl
+move-heard PreFlaging x d = refl
+move-heard Playing x d = refl
+move-heard Win x d = refl
+move-heard Loss x d = refl
+
+move-idle : (g : GameState) (B : List ℤ) (x : Pointer) (d : Desk) → byGame g B (Mv x) d ≡ done 0 d
+unfolding byGame ready preFlaging playing
+move-idle Ready B x d = refl
+move-idle PreFlaging B x d = refl
+move-idle Playing B x d = refl
+move-idle Win B x d = refl
+move-idle Loss B x d = refl
+
+module _ (B : List ℤ) (r c : ℕ) (p : Position) (shown bits : List ℕ) (w : Decoded) (e : w ≡ pointerOf (p .settings) r c) (x : Pointer) (h : w ≡ At x) where
+  full : 65535 ≤ p .events → 31 ≡ refusalAt 4 x (desk p shown bits)
+  unfolding refusalAt
+  full l = rw (le-ltb (p .events) 65535 l) refl
+
+  heard : p .events < 65535 → 0 ≡ refusalAt 4 x (desk p shown bits)
+  unfolding refusalAt plainOf eventOf resolved
+  heard l = rw (lt-ltb (p .events) 65535 l) (sym (move-heard (p .game) x (desk p shown bits)))
+
+  counts : (q : Position) → q ≡ withEvents p (p .events + 1) → done 0 (desk q shown bits) ≡ playAt B 4 x (desk p shown bits)
+  unfolding playAt plainOf eventOf resolved flipped
+  counts q k = rw (k, move-idle (p .game) B x (desk p shown bits)) refl
+
+  pub move-full : 65535 ≤ p .events → done 31 (desk p shown bits) ≡ stepOn B 4 r c (desk p shown bits)
+  move-full l = step-refused B 4 r c p shown bits w e x 31 h (full l) (λ z. absurd (omega arith))
+
+  pub move-counts : (q : Position) → p .events < 65535 → q ≡ withEvents p (p .events + 1) → done 0 (desk q shown bits) ≡ stepOn B 4 r c (desk p shown bits)
+  move-counts q l k = counts q k ∙ sym (step-played B 4 r c p shown bits w e x 0 h (heard l) refl)

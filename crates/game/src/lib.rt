@@ -4,7 +4,8 @@ ghost use mathlib.Core.Path.{_≡_};
 ghost use mathlib.Core.List.{List};
 ghost use Prim.Native.Nat.{ℕ, _+_, _%_, _≤_};
 ghost use lib.ListN.{length, getD};
-ghost use Rattle.rules.specs.Clicks.{desk};
+ghost use lib.IntN.{ℤ};
+ghost use Rattle.rules.specs.Clicks.{desk, done};
 ghost use Rattle.rules.specs.Step.{playAt, stepOn};
 ghost use Rattle.keep.specs.Kept.{Inside, LawfulAt};
 ghost use Rattle.events.specs.Able.{Plays};
@@ -42,6 +43,32 @@ pub fn play_at(
     }
 }
 
+// A move, most of what a recording holds: it changes the count of events alone, in every game state.
+fn move_on(p: Position, row: u8, column: u8) -> Played
+    requires { ⌜ p .events ≤ 65535 ⌝ }
+    ensures { λ r. ⌜ ((B : List ℤ) (shown bits : List ℕ) → done (r .answer) (desk (r .position) shown bits) ≡ stepOn B 4 row column (desk p shown bits)) ⌝ }
+{
+    let s = p.settings;
+    let Decoded::At(x) = mouse::decode(s, row, column) else {
+        return Played {
+            answer: 30,
+            position: p,
+        };
+    };
+    if 65535 <= p.events {
+        return Played {
+            answer: 31,
+            position: p,
+        };
+    }
+    let n = p.events + 1;
+    let q = p.with_events(n);
+    Played {
+        answer: 0,
+        position: q,
+    }
+}
+
 // One event on a lawful position, with the work lent as zeros: 30 to 33, or the event.
 pub fn step_on(
     p: Position,
@@ -57,6 +84,9 @@ pub fn step_on(
     requires { ⌜ Blank (p .settings) (now work) ⌝ }
     ensures { λ r. ⌜ Plays (stepOn (now (mines .entry)) code row column) p (now (shown .entry)) (now (bits .entry)) (now (work .entry)) r (now (shown .exit)) (now (bits .exit)) (now (work .exit)) ⌝ }
 {
+    if code == 4 {
+        return move_on(p, row, column);
+    }
     let s = p.settings;
     let Decoded::At(x) = mouse::decode(s, row, column) else {
         return Played {

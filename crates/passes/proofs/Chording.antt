@@ -23,7 +23,7 @@ use Rattle.clicks.specs.Room.{Laid, Roomy, closedIn, Acts, Fell, idle, fell}
 use Rattle.clicks.proofs.Ends.{chord-idle}
 use Rattle.clicks.proofs.Chord.{chord-fell}
 use Rattle.passes.specs.declared.Scanned.{Scanned}
-use Rattle.passes.specs.Passing.{scan, Scans}
+use Rattle.passes.specs.Passing.{yes, scan, Scans}
 
 -- ---- a desk of the game that was laid ------------------------------------------------------------------------------------------------------
 
@@ -32,6 +32,9 @@ pub record Sits (st : Settings) (d : Desk) : Type 0 where
   pub settings : d .position .settings ≡ st
   pub board : length (d .shown) ≡ st .rows * st .columns
   pub room : Roomy (d .position) (d .shown)
+
+pub sits-long : (st : Settings) (d : Desk) → Sits st d → length (d .shown) ≡ cellsOf d
+sits-long st d s = s .board ∙ ap (λ (x : Settings). x .rows * x .columns) (sym (s .settings))
 
 module _ (B : List ℤ) (p : Position) (shown work : List ℕ) (l : Laid B p shown work) where
   pub sits-start : Roomy p shown → (bits : List ℕ) → Sits (p .settings) (desk p shown bits)
@@ -55,10 +58,10 @@ module _ (B : List ℤ) (p : Position) (shown work : List ℕ) (l : Laid B p sho
 noted-none : (s : Scan) (o : Play) → o .answer ≡ 0 → noted s o ≡ s
 noted-none s o e = rw (eq-eqb _ _ e)
 
-abbrev opened : Play → Scan
+abbrev pub opened : Play → Scan
 opened o = record { desk = o .desk; any = true; ever = true }
 
-noted-some : (s : Scan) (o : Play) → (o .answer ≡ 0 → ⊥) → noted s o ≡ opened o
+pub noted-some : (s : Scan) (o : Play) → (o .answer ≡ 0 → ⊥) → noted s o ≡ opened o
 noted-some s o n = rw (ne-eqb _ _ n)
 
 module _ (B : List ℤ) (i : ℕ) (s : Scan) where
@@ -66,11 +69,11 @@ module _ (B : List ℤ) (i : ℕ) (s : Scan) where
   unfolding chordOne
   one-over e = rw e
 
-  one-plays : isPlaying (s .desk .position .game) ≡ true → chordOne B i s ≡ noted s (performChord B i (s .desk))
+  pub one-plays : isPlaying (s .desk .position .game) ≡ true → chordOne B i s ≡ noted s (performChord B i (s .desk))
   unfolding chordOne
   one-plays e = rw e
 
-  one-idle : performChord B i (s .desk) ≡ done 0 (s .desk) → chordOne B i s ≡ s
+  pub one-idle : performChord B i (s .desk) ≡ done 0 (s .desk) → chordOne B i s ≡ s
   one-idle e = go (isPlaying (s .desk .position .game)) refl
     where
       go : (b : Bool) → isPlaying (s .desk .position .game) ≡ b → chordOne B i s ≡ s
@@ -100,7 +103,7 @@ module _ (B : List ℤ) (v : Valued B) (i : ℕ) (s : Scanned) (shown shown′ w
         same = a .same;
       }
 
-  pub one-some : isPlaying (s .position .game) ≡ true → (o .answer ≡ 0 → ⊥) → (r : Scanned) → r ≡ record { position = o .position; any = true; ever = true }
+  pub one-some : isPlaying (s .position .game) ≡ true → (o .answer ≡ 0 → ⊥) → (r : Scanned) → r ≡ yes (o .position)
       → Scans (λ bits. chordOne B i (scan s shown bits)) w r shown′ w′
   one-some e n r d =
       record {
@@ -120,9 +123,6 @@ pub record Spent (f : Scan → Bool) (n : ℕ) (st : Settings) (bits : List ℕ)
   pub kept : s .desk .bits ≡ bits
 
 module _ (B : List ℤ) (v : Valued B) (f : Scan → Bool) (n : ℕ) (st : Settings) (bits : List ℕ) where
-  long-of : (d : Desk) → Sits st d → length (d .shown) ≡ cellsOf d
-  long-of d s = s .board ∙ ap (λ (x : Settings). x .rows * x .columns) (sym (s .settings))
-
   spent-fell : (i : ℕ) (s : Scan) → Spent f n st bits s → isPlaying (s .desk .position .game) ≡ true → Fell (s .desk) (performChord B i (s .desk)) → Spent f n st bits (chordOne B i s)
   spent-fell i s k e (idle d) = rw (one-idle B i s d) k
   spent-fell i s k e (fell a c l t b r) =
@@ -133,11 +133,11 @@ module _ (B : List ℤ) (v : Valued B) (f : Scan → Bool) (n : ℕ) (st : Setti
         kept = b ∙ k .kept;
       })
 
-  spent-one : (i : ℕ) (s : Scan) → Spent f n st bits s → Spent f n st bits (chordOne B i s)
+  pub spent-one : (i : ℕ) (s : Scan) → Spent f n st bits s → Spent f n st bits (chordOne B i s)
   spent-one i s k = go (isPlaying (s .desk .position .game)) refl
     where
       go : (b : Bool) → isPlaying (s .desk .position .game) ≡ b → Spent f n st bits (chordOne B i s)
-      go true e = spent-fell i s k e (chord-fell B v i (s .desk) (long-of (s .desk) (k .sits)))
+      go true e = spent-fell i s k e (chord-fell B v i (s .desk) (sits-long st (s .desk) (k .sits)))
       go false e = rw (one-over B i s e) k
 
   pub spent-scan : (m : ℕ) (s : Scan) → Spent f n st bits s → Spent f n st bits (chordScan B m s)
@@ -148,7 +148,7 @@ module _ (B : List ℤ) (v : Valued B) (f : Scan → Bool) (n : ℕ) (st : Setti
 -- ---- a scan --------------------------------------------------------------------------------------------------------------------------------
 
 -- a scan begins
-abbrev begun : Scan → Scan
+abbrev pub begun : Scan → Scan
 begun s = record { desk = s .desk; any = false; ever = s .ever }
 
 -- the loop over the cells

@@ -5,3 +5,4 @@ pub mod OneScan
 pub mod Chording
 pub mod Turns
 pub mod Hand
+pub mod Enough

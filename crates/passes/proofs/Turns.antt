@@ -75,11 +75,11 @@ abbrev pub On : Settings → ℕ → Round → Type 0
 On st n r = Like st n (r .desk)
 
 module _ (B : List ℤ) (v : Valued B) (st : Settings) (n : ℕ) where
-  turn-keep : (r : Round) → On st n r → On st n (bothRound B r)
+  pub turn-keep : (r : Round) → On st n r → On st n (bothRound B r)
   unfolding bothRound
   turn-keep r l = chord-like B v st n (flagPass B (r .desk)) (flag-like B st n (r .desk) l)
 
-  turn-less : (r : Round) → On st n r → foundAny (bothRound B r) ≡ true → size (bothRound B r) < size r
+  pub turn-less : (r : Round) → On st n r → foundAny (bothRound B r) ≡ true → size (bothRound B r) < size r
   unfolding bothRound
   turn-less r l e =
       let f = flagPass B (r .desk) in

@@ -42,6 +42,10 @@ pub record Leaves {A : Type 0} (got due : A) (w w′ : List ℕ) : Type 0 where
   pub outcome : got ≡ due
   pub same : w′ ≡ w
 
+-- a chord opened something
+abbrev pub yes : Position → Scanned
+yes p = record { position = p; any = true; ever = true }
+
 -- a scan of the code, with the shown board and the bits
 abbrev pub scan : Scanned → List ℕ → List ℕ → Scan
 scan s shown bits = record { desk = desk (s .position) shown bits; any = s .any; ever = s .ever }

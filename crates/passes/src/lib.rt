@@ -7,7 +7,7 @@ ghost use Prim.Native.Nat.{ℕ, _+_, _*_, _<_, _≤_};
 ghost use lib.Dec.{eqb};
 ghost use lib.ListN.{length};
 ghost use Rattle.rules.specs.Words.{stackOf};
-ghost use Rattle.rules.specs.States.{isPlaying};
+ghost use Rattle.rules.specs.States.{isPlaying, withFlag};
 ghost use Rattle.rules.specs.Grid.{cellOf, pushIf, pushed};
 ghost use Rattle.rules.specs.Lent.{workRoom};
 ghost use Rattle.rules.specs.Opening.{closedAt};
@@ -16,7 +16,7 @@ ghost use Rattle.rules.specs.Passes.{remainder, allClosed, ripeAt, listed, flag
 ghost use Rattle.cells.specs.Ground.{Sized, Valued, Below};
 ghost use Rattle.clicks.specs.Room.{Laid, Roomy};
 ghost use Rattle.passes.specs.Listing.{Grown, Flaggable, Flags};
-ghost use Rattle.passes.specs.Passing.{Prepared, RightRoom, ChordRoom, Leaves, scan, Scans, round, going, counted};
+ghost use Rattle.passes.specs.Passing.{Prepared, RightRoom, ChordRoom, Leaves, yes, scan, Scans, round, going, counted};
 use rules::GameState;
 use rules::Played;
 use rules::Position;
@@ -164,6 +164,15 @@ fn list_cells(shown: &[u8], work: &mut [u16], rows: usize, columns: usize) -> us
     top
 }
 
+// One flag more, and no other count.
+fn add_flag(p: Position) -> Position
+    requires { ⌜ p .counts .flag < 65535 ⌝ }
+    ensures { λ r. ⌜ r ≡ withFlag p (p .counts .flag + 1) ⌝ }
+{
+    let n = p.counts.flag + 1;
+    p.with_flag(n)
+}
+
 // A cell that still shows 10 is flagged.
 fn flag_one(p: Position, mines: &[i8], shown: &mut [u8], bits: &mut [u8], cell: usize) -> Position
     requires { ⌜ Valued (now mines) ⌝ }
@@ -174,8 +183,7 @@ fn flag_one(p: Position, mines: &[i8], shown: &mut [u8], bits: &mut [u8], cell: 
     if shown[cell] == 10 {
         shown[cell] = 11;
         clicks::mark_mine(mines, bits, cell);
-        let n = p.counts.flag + 1;
-        return p.with_flag(n);
+        return add_flag(p);
     }
     p
 }
@@ -242,6 +250,17 @@ fn playing(g: GameState) -> bool
     }
 }
 
+// A chord opened something: yes for the scan and for the pass, and no count of the hand.
+fn opened(position: Position) -> Scanned
+    ensures { λ r. ⌜ r ≡ yes position ⌝ }
+{
+    Scanned {
+        position,
+        any: true,
+        ever: true,
+    }
+}
+
 // A useful cell is chorded, while Playing; a cell that shows no number below 8 is passed over at once.
 fn chord_one(s: Scanned, mines: &[i8], shown: &mut [u8], work: &mut [u16], cell: usize) -> Scanned
     requires { ⌜ Laid (now mines) (s .position) (now shown) (now work) ⌝ }
@@ -261,12 +280,7 @@ fn chord_one(s: Scanned, mines: &[i8], shown: &mut [u8], work: &mut [u16], cell:
     if o.answer == 0 {
         return s;
     }
-    let position = o.position;
-    Scanned {
-        position,
-        any: true,
-        ever: true,
-    }
+    opened(o.position)
 }
 
 // One scan: the cells in row order, each on what the ones before it left.

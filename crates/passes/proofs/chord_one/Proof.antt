@@ -31,6 +31,9 @@ same-length-2 c = c .before .before .before .before .before .before .perform-cho
 returns-3 : tie.Need-returns-3
 returns-3 c = one-none _ (c .before .before .before .before .before .before .before .before .before .before .before .before .before .before .before .before .pre .0 .fits .mined .valued) _ _ _ _ _ _ _ (c .before .before .before .before .before .before .before .before .before .before .before .before .before .before .before .before .pre .0 .fits .board) (c .before .before .before .before .before .before .perform-chord .ensures) (c .if3 .taken)
 
+opened-requires : tie.Need-opened-requires
+opened-requires c κs = search needs
+
 same-length-3 : tie.Need-same-length-3
 same-length-3 c = c .before .before .before .before .before .before .before .perform-chord .kept .1 .1 .0
 
@@ -38,7 +41,7 @@ same-length-4 : tie.Need-same-length-4
 same-length-4 c = c .before .before .before .before .before .before .before .perform-chord .kept .1 .1 .1 .0
 
 returns-4 : tie.Need-returns-4
-returns-4 c = one-some _ (c .before .before .before .before .before .before .before .before .before .before .before .before .before .before .before .before .before .pre .0 .fits .mined .valued) _ _ _ _ _ _ _ (c .before .before .before .before .before .before .before .before .before .before .before .before .before .before .before .before .before .pre .0 .fits .board) (c .before .before .before .before .before .before .before .perform-chord .ensures) (sym (c .before .before .before .before .before .before .before .before .before .before .before .playing .ensures) ∙ not-false _ (c .before .before .before .before .before .before .before .before .before .before .if2 .left)) (c .before .if3 .left) _ refl
+returns-4 c = one-some _ (c .before .before .before .before .before .before .before .before .before .before .before .before .before .before .before .before .before .pre .0 .fits .mined .valued) _ _ _ _ _ _ _ (c .before .before .before .before .before .before .before .before .before .before .before .before .before .before .before .before .before .pre .0 .fits .board) (c .before .before .before .before .before .before .before .perform-chord .ensures) (sym (c .before .before .before .before .before .before .before .before .before .before .before .playing .ensures) ∙ not-false _ (c .before .before .before .before .before .before .before .before .before .before .if2 .left)) (c .before .if3 .left) _ (c .opened .ensures)
 
 pub chord-one-spec : {M : Type 1} → statement M
 chord-one-spec =
@@ -52,6 +55,7 @@ chord-one-spec =
     same-length
     same-length-2
     returns-3
+    opened-requires
     same-length-3
     same-length-4
     returns-4)

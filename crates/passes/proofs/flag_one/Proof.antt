@@ -16,11 +16,8 @@ slice-write-shown c = omega (arith, c .before .before .before .before .pre .1 .1
 mark-mine-requires : tie.Need-mark-mine-requires
 mark-mine-requires c κs = (c .before .before .before .before .before .pre .1 .0, (c .before .before .before .before .before .pre .0, omega (arith, c .before .before .before .before .before .pre .1 .1 .bytes)))
 
-add-n : tie.Need-add-n
-add-n c = let b = flag-room _ _ _ (c .before .before .before .before .before .before .before .before .before .pre .1 .1) (c .before .before .before .before .before .if1 .taken) in omega arith
-
-with-flag-requires : tie.Need-with-flag-requires
-with-flag-requires c κs = search needs
+add-flag-requires : tie.Need-add-flag-requires
+add-flag-requires c κs = flag-room _ _ _ (c .before .before .before .before .before .before .before .before .pre .1 .1) (c .before .before .before .before .if1 .taken)
 
 same-length : tie.Need-same-length
 same-length c = search needs
@@ -29,7 +26,7 @@ same-length-2 : tie.Need-same-length-2
 same-length-2 c = search needs
 
 returns : tie.Need-returns
-returns c = flag-is _ _ _ _ _ _ _ (c .before .before .before .before .before .before .if1 .taken) (c .before .before .before .before .mark-mine .ensures .after) (c .with-flag .ensures)
+returns c = flag-is _ _ _ _ _ _ _ (c .before .before .before .before .before .if1 .taken) (c .before .before .before .mark-mine .ensures .after) (c .add-flag .ensures)
 
 returns-2 : tie.Need-returns-2
 returns-2 c = sym (flag-no _ _ _ (ne-eqb _ _ (c .if1 .left)))
@@ -41,8 +38,7 @@ flag-one-spec =
     slice-read-if1
     slice-write-shown
     mark-mine-requires
-    add-n
-    with-flag-requires
+    add-flag-requires
     same-length
     same-length-2
     returns

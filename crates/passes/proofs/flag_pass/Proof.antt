@@ -15,7 +15,7 @@ list-cells-requires : tie.Need-list-cells-requires
 list-cells-requires c κs = (c .before .before .before .before .before .before .before .pre .laid .fits .mined .sized, (c .before .before .before .before .before .before .before .pre .laid .fits .board, c .before .before .before .before .before .before .before .pre .laid .fits .room))
 
 flag-listed-requires : tie.Need-flag-listed-requires
-flag-listed-requires c κs = pass-asks _ _ _ _ _ ((c .before .before .before .before .before .before .before .before .before .before .before .before .before .pre)) (c .before .before .before .before .before .list-cells .ensures) (c .before .before .before .before .before .list-cells .kept .1 .0)
+flag-listed-requires c κs = pass-asks _ _ _ _ _ (c .before .before .before .before .before .before .before .before .before .before .before .before .before .pre) (c .before .before .before .before .before .list-cells .ensures) (c .before .before .before .before .before .list-cells .kept .1 .0)
 
 same-length : tie.Need-same-length
 same-length c = c .before .before .before .before .before .before .flag-listed .kept .1 .1 .0
@@ -27,7 +27,7 @@ same-length-3 : tie.Need-same-length-3
 same-length-3 c = c .before .before .before .before .before .before .flag-listed .kept .1 .1 .1 .1 .0 ∙ c .before .before .before .before .before .before .before .before .before .before .before .before .list-cells .kept .1 .0
 
 returns : tie.Need-returns
-returns c = pass-leaves _ _ _ _ _ ((c .before .before .before .before .before .before .before .before .before .before .before .before .before .before .before .before .before .before .before .before .pre)) (c .before .before .before .before .before .before .before .before .before .before .before .before .list-cells .ensures) (c .before .before .before .before .before .before .before .before .before .before .before .before .list-cells .kept .1 .0) _ _ (c .before .before .before .before .before .before .flag-listed .ensures) (c .before .before .before .before .before .before .flag-listed .kept .1 .1 .1 .1 .0)
+returns c = pass-leaves _ _ _ _ _ (c .before .before .before .before .before .before .before .before .before .before .before .before .before .before .before .before .before .before .before .before .pre) (c .before .before .before .before .before .before .before .before .before .before .before .before .list-cells .ensures) (c .before .before .before .before .before .before .before .before .before .before .before .before .list-cells .kept .1 .0) _ _ (c .before .before .before .before .before .before .flag-listed .ensures) (c .before .before .before .before .before .before .flag-listed .kept .1 .1 .1 .1 .0)
 
 pub flag-pass-spec : {M : Type 1} → statement M
 flag-pass-spec =

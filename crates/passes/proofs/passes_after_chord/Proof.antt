@@ -15,7 +15,7 @@ one-of-requires : tie.Need-one-of-requires
 one-of-requires c κs = tt
 
 both-pass-requires : tie.Need-both-pass-requires
-both-pass-requires c κs = (c .before .before .before .before .before .before .before .before .before .before .pre)
+both-pass-requires c κs = c .before .before .before .before .before .before .before .before .before .before .pre
 
 same-length : tie.Need-same-length
 same-length c = c .before .before .before .before .before .before .both-pass .kept .1 .1 .0

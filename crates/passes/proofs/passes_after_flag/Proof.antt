@@ -15,7 +15,7 @@ one-of-requires : tie.Need-one-of-requires
 one-of-requires c κs = tt
 
 both-pass-requires : tie.Need-both-pass-requires
-both-pass-requires c κs = (c .before .before .before .before .before .before .before .before .before .before .pre)
+both-pass-requires c κs = c .before .before .before .before .before .before .before .before .before .before .pre
 
 same-length : tie.Need-same-length
 same-length c = c .before .before .before .before .before .before .both-pass .kept .1 .1 .0
@@ -33,7 +33,7 @@ one-of-requires-2 : tie.Need-one-of-requires-2
 one-of-requires-2 c κs = tt
 
 flag-pass-requires : tie.Need-flag-pass-requires
-flag-pass-requires c κs = (c .before .before .before .before .before .before .before .before .before .before .before .before .pre)
+flag-pass-requires c κs = c .before .before .before .before .before .before .before .before .before .before .before .before .pre
 
 same-length-4 : tie.Need-same-length-4
 same-length-4 c = c .before .before .before .before .before .before .flag-pass .kept .1 .1 .0
