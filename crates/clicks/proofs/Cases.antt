@@ -13,21 +13,9 @@ use Rattle.rules.specs.Grid.{cellOf, around}
 use Rattle.rules.specs.Board.{faceAt}
 use Rattle.rules.specs.Lent.{bitAt, withBit}
 use Rattle.rules.specs.Opening.{closedAt}
-use Rattle.rules.specs.Clicks.{Desk, done, showing, doneAt, isWon, bitsWith, addsRce, unflagged, takeBack, flagAt, chordIsUseful}
-use Rattle.cells.proofs.Words.{every-fails}
+use Rattle.rules.specs.Clicks.{Desk, done, showing, bitsWith, addsRce, unflagged, takeBack, flagAt, chordIsUseful}
 use Rattle.cells.proofs.Grid.{cell-back}
 use Rattle.clicks.specs.Room.{Marked}
-
--- ---- the win test ----------------------------------------------------------------------------------------------------------------------
-
-module _ (B : List ℤ) (shown : List ℕ) where
-  pub won-all : (i : ℕ) → i ≡ length shown → every (doneAt B shown) i ≡ true → true ≡ isWon B shown
-  unfolding isWon
-  won-all i e w = sym w ∙ ap (every (doneAt B shown)) e
-
-  pub won-stops : (i : ℕ) (d : Bool) → i < length shown → d ≡ doneAt B shown i → d ≡ false → false ≡ isWon B shown
-  unfolding isWon
-  won-stops i d h e f = sym (every-fails (doneAt B shown) (length shown) i h (sym e ∙ f))
 
 -- ---- right -----------------------------------------------------------------------------------------------------------------------------
 

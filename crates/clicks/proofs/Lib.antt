@@ -3,3 +3,4 @@ pub mod Gather
 pub mod Ends
 pub mod Steps
 pub mod Chord
+pub mod Winning

@@ -1,5 +1,6 @@
 -- What the clicks require, the room that keeps their sums in range among it, and what they ensure.
 use mathlib.Core.Path.{_≡_}
+use mathlib.Core.Bool.{Bool, true, false}
 use mathlib.Core.List.{List}
 use Prim.Native.Nat.{ℕ, _+_, _*_, _<_, _≤_}
 use lib.ListN.{length, set}
@@ -7,11 +8,11 @@ use lib.IntN.{ℤ}
 use Rattle.rules.specs.declared.Position.{Position}
 use Rattle.rules.specs.declared.Played.{Played}
 use Rattle.rules.specs.declared.Cells.{Cells}
-use Rattle.rules.specs.Words.{pick, bit, stackOf}
+use Rattle.rules.specs.Words.{every, pick, bit, stackOf}
 use Rattle.rules.specs.Lent.{workRoom}
 use Rattle.rules.specs.Board.{mineAt}
 use Rattle.rules.specs.Opening.{refreshed}
-use Rattle.rules.specs.Clicks.{Desk, Play, desk, done, rowsOf, columnsOf, bitsWith, addsRce, ended, leftCounts}
+use Rattle.rules.specs.Clicks.{doneAt, Desk, Play, desk, done, rowsOf, columnsOf, bitsWith, addsRce, ended, leftCounts}
 use Rattle.rules.specs.Lawful.{countShown, shows}
 use Rattle.cells.specs.Ground.{Fitting, Zeros}
 
@@ -56,6 +57,11 @@ opensWith B n given d = ended B n d (refreshed B (rowsOf d) (columnsOf d) given 
 -- a mine counts nothing, any other cell lce + 1 and solved_left
 abbrev pub leftAdds : List ℤ → ℕ → Desk → Desk
 leftAdds B i d = pick (mineAt B i) d (leftCounts B d i)
+
+-- the cells from one place up to another are done, or some cell before the end is not
+pub record DoneBetween (B : List ℤ) (shown : List ℕ) (from to : ℕ) (r : Bool) : Type 0 where
+  pub yes : r ≡ true → (i : ℕ) → from ≤ i → i < to → doneAt B shown i ≡ true
+  pub no : r ≡ false → (n : ℕ) → to ≤ n → every (doneAt B shown) n ≡ false
 
 -- a new flag's bit, tested and then set
 pub record Marked (B : List ℤ) (bits : List ℕ) (i r : ℕ) (bits′ : List ℕ) : Type 0 where

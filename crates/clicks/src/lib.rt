@@ -10,7 +10,7 @@ ghost use Rattle.rules.specs.Opening.{closedAt};
 ghost use Rattle.rules.specs.Clicks.{desk, done, doneAt, isWon, ended, solvesLeft, leftClick, flagged, takeBack, chordIsUseful, closedAround, chordCounts, performChord};
 ghost use Rattle.cells.specs.Ground.{Sized, Valued, Below};
 ghost use Rattle.judging.specs.Parts.{Lent};
-ghost use Rattle.clicks.specs.Room.{Laid, Roomy, LeftRoom, Acts, Adds, opensWith, leftAdds, Marked, oneMore, Collected};
+ghost use Rattle.clicks.specs.Room.{DoneBetween, Laid, Roomy, LeftRoom, Acts, Adds, opensWith, leftAdds, Marked, oneMore, Collected};
 use rules::Cells;
 use rules::GameState;
 use rules::Played;
@@ -25,21 +25,22 @@ fn done_at(mines: &[i8], shown: &[u8], i: usize) -> bool
     requires { ⌜ Valued (now mines) ⌝ }
     ensures { λ r. ⌜ r ≡ doneAt (now (mines .entry)) (now (shown .entry)) i ⌝ }
 {
-    let f = cells::face_at(mines, i);
-    if f == 15 {
+    if shown[i] < 10 {
         return true;
     }
-    shown[i] < 10
+    let f = cells::face_at(mines, i);
+    f == 15
 }
 
-// No safe cell is left; the scan stops at the first.
-pub fn is_win(mines: &[i8], shown: &[u8]) -> bool
+// The cells from one place up to another are done; the scan stops at the first that is not.
+fn done_between(mines: &[i8], shown: &[u8], from: usize, to: usize) -> bool
     requires { ⌜ length (now mines) ≡ length (now shown) ⌝ }
     requires { ⌜ Valued (now mines) ⌝ }
-    ensures { λ r. ⌜ r ≡ isWon (now (mines .entry)) (now (shown .entry)) ⌝ }
+    requires { ⌜ to ≤ length (now shown) ⌝ }
+    ensures { λ r. ⌜ DoneBetween (now (mines .entry)) (now (shown .entry)) from to r ⌝ }
 {
-    let mut i = 0;
-    while i < shown.len() {
+    let mut i = from;
+    while i < to {
         let d = done_at(mines, shown, i);
         if !d {
             return false;
@@ -49,10 +50,33 @@ pub fn is_win(mines: &[i8], shown: &[u8]) -> bool
     true
 }
 
-// How an opening ends: a mine is Loss and 4; else the win is tested, and the answer is the one given.
-fn end_opening(p: Position, mines: &[i8], shown: &[u8], hit: bool, n: u16) -> Played
+// No safe cell is left. The scan begins near the cell that was opened, since a closed one is mostly there.
+fn is_win_near(mines: &[i8], shown: &[u8], near: usize) -> bool
     requires { ⌜ length (now mines) ≡ length (now shown) ⌝ }
     requires { ⌜ Valued (now mines) ⌝ }
+    requires { ⌜ near ≤ length (now shown) ⌝ }
+    ensures { λ r. ⌜ r ≡ isWon (now (mines .entry)) (now (shown .entry)) ⌝ }
+{
+    if !done_between(mines, shown, near, shown.len()) {
+        return false;
+    }
+    done_between(mines, shown, 0, near)
+}
+
+// No safe cell is left.
+pub fn is_win(mines: &[i8], shown: &[u8]) -> bool
+    requires { ⌜ length (now mines) ≡ length (now shown) ⌝ }
+    requires { ⌜ Valued (now mines) ⌝ }
+    ensures { λ r. ⌜ r ≡ isWon (now (mines .entry)) (now (shown .entry)) ⌝ }
+{
+    is_win_near(mines, shown, 0)
+}
+
+// How an opening ends: a mine is Loss and 4; else the win is tested, and the answer is the one given.
+fn end_opening(p: Position, mines: &[i8], shown: &[u8], near: usize, hit: bool, n: u16) -> Played
+    requires { ⌜ length (now mines) ≡ length (now shown) ⌝ }
+    requires { ⌜ Valued (now mines) ⌝ }
+    requires { ⌜ near ≤ length (now shown) ⌝ }
     ensures { λ r. ⌜ ((past bits : List ℕ) → done (r .answer) (desk (r .position) (now (shown .entry)) bits) ≡ ended (now (mines .entry)) n (desk p past bits) (record { shown = now (shown .entry); hit = hit })) ⌝ }
 {
     if hit {
@@ -62,7 +86,7 @@ fn end_opening(p: Position, mines: &[i8], shown: &[u8], hit: bool, n: u16) -> Pl
             position: q,
         };
     }
-    let won = is_win(mines, shown);
+    let won = is_win_near(mines, shown, near);
     if won {
         let q = p.with_game(GameState::Win);
         return Played {
@@ -74,6 +98,18 @@ fn end_opening(p: Position, mines: &[i8], shown: &[u8], hit: bool, n: u16) -> Pl
         answer: n,
         position: p,
     }
+}
+
+// The first of the cells, or 0 where it is no place of the board.
+fn first_of(cells: Cells, length: usize) -> usize
+    ensures { λ r. ⌜ r ≤ length ⌝ }
+{
+    let at = cells.at;
+    let first = at[0] as usize;
+    if length < first {
+        return 0;
+    }
+    first
 }
 
 // Opens the cells, and ends with the answer given where no mine is hit.
@@ -93,7 +129,8 @@ fn open_cells(
     let rows = p.settings.rows as usize;
     let columns = p.settings.columns as usize;
     let hit = opening::refresh_board(mines, shown, work, rows, columns, cells);
-    end_opening(p, mines, shown, hit, n)
+    let near = first_of(cells, shown.len());
+    end_opening(p, mines, shown, near, hit, n)
 }
 
 // ---- left ------------------------------------------------------------------------------------------------------------------------------

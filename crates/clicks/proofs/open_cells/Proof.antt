@@ -1,4 +1,4 @@
--- `open_cells`: the opening, then its ending.
+-- `clicks::open_cells` meets its contract.
 use borrow.Author.Needs.{needs}
 use Rattle.clicks.proofs.Ends.{opened-ends}
 use Rattle.clicks.proofs.open_cells.Statement.{statement}
@@ -13,6 +13,9 @@ cast-columns c = search needs
 refresh-board-requires : tie.Need-refresh-board-requires
 refresh-board-requires c κs = search needs
 
+first-of-requires : tie.Need-first-of-requires
+first-of-requires c κs = search needs
+
 end-opening-requires : tie.Need-end-opening-requires
 end-opening-requires c κs = search needs
 
@@ -23,7 +26,7 @@ same-length-2 : tie.Need-same-length-2
 same-length-2 c = search needs
 
 returns : tie.Need-returns
-returns c = opened-ends _ _ _ _ _ _ _ _ _ _ (c .before .before .before .before .before .before .refresh-board .ensures .outcome) (c .end-opening .ensures) (c .before .before .before .before .before .before .refresh-board .ensures .work)
+returns c = opened-ends _ _ _ _ _ _ _ _ _ _ (c .before .before .before .before .before .before .before .refresh-board .ensures .outcome) (c .end-opening .ensures) (c .before .before .before .before .before .before .before .refresh-board .ensures .work)
 
 pub open-cells-spec : {M : Type 1} → statement M
 open-cells-spec =
@@ -32,6 +35,7 @@ open-cells-spec =
     cast-rows
     cast-columns
     refresh-board-requires
+    first-of-requires
     end-opening-requires
     same-length
     same-length-2
