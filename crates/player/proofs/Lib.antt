@@ -1,0 +1,6 @@
+pub mod Filling
+pub mod Telling
+pub mod Ending
+pub mod Beginning
+pub mod Games
+pub mod Refusing

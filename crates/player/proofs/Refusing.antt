@@ -1,0 +1,107 @@
+-- A refused book's place is no further than its length; an accepted book's boards are parts of what is lent.
+use mathlib.Core.Path.{_≡_, _∙_, ap, sym, refl, subst}
+use mathlib.Core.Bool.{Bool, true, false}
+use mathlib.Core.List.{List}
+use Prim.Native.Nat.{ℕ, zero, suc, _+_, _*_, _/_, _<_, _≤_}
+use native.Mathlib.Omega.{arith}
+use borrow.Author.Tests.{leb-true}
+use lib.Dec.{leb, ltb, eqb}
+use lib.IntN.{ℤ}
+use lib.ListN.{length, drop, take}
+use lib.Seq.{length-take-le}
+use Rattle.rules.specs.declared.Book.{Book}
+use Rattle.rules.specs.declared.Settings.{Settings}
+use Rattle.rules.specs.Grid.{sizeOk}
+use Rattle.rules.specs.Board.{mineOk}
+use Rattle.rules.specs.Calls.{modeOk, cellsIn}
+use Rattle.rules.specs.Lent.{bitBytes}
+use Rattle.rules.specs.Book.{byteAt, wordAt, orElse, reaches, maxEvents, eventsFrom, minesFrom, minesSection, settingsAt, bookOf, minesOf, eventsOf}
+use Rattle.rules.specs.Printout.{printoutBy, printoutOf}
+use Rattle.book.proofs.Book.{size-cells}
+use Rattle.book.proofs.Writing.{accepted-writable}
+use Rattle.text.specs.Put.{PutWithin}
+use Rattle.text.specs.Texts.{refusedText}
+use Rattle.text.proofs.Putting.{put-as}
+use Rattle.text.proofs.Printed.{printout-refused}
+use Rattle.player.specs.Printing.{Enough, Fit}
+
+-- ---- the place of a refusal ------------------------------------------------------------------------------------------------------------
+
+record Placed (n : ℕ) (b : Book) : Type 0 where
+  pub within : b .place ≤ n
+
+or-else-placed : (n place : ℕ) (t : Bool) {most : ℕ} {rest : Book} → place ≤ most → Placed most rest → Placed most (orElse n place t rest)
+or-else-placed n place true h a = a
+or-else-placed n place false h a = record { within = h }
+
+reaches-placed : (s : List ℕ) (end : ℕ) {rest : Book} → (end ≤ length s → Placed (length s) rest) → Placed (length s) (reaches s end rest)
+reaches-placed s end {rest} f = go (leb end (length s)) refl
+  where
+    go : (t : Bool) → leb end (length s) ≡ t → Placed (length s) (orElse 40 (length s) t rest)
+    go true e = f (leb-true end (length s) e)
+    go false e = record { within = omega arith }
+
+events-placed : (s : List ℕ) (at : ℕ) (g : Settings) (minesAt n : ℕ) → Placed (length s) (eventsFrom s at g minesAt n)
+unfolding eventsFrom
+events-placed s at g minesAt n =
+    let end : ℕ = at + 2 + 3 * wordAt s at in
+    reaches-placed s (at + 2) (λ h.
+    or-else-placed 44 at (leb (wordAt s at) maxEvents) (omega arith)
+    (reaches-placed s end (λ k. or-else-placed 43 end (leb (length s) end) k (record { within = omega arith }))))
+
+mines-placed : (s : List ℕ) (R C at n left : ℕ) (rest : Book) → Placed (length s) rest → Placed (length s) (minesFrom s R C at n left rest)
+unfolding minesFrom
+mines-placed s R C at n zero rest a = a
+mines-placed s R C at n (suc left) rest a =
+    let more = mines-placed s R C at (suc n) left rest a in
+    reaches-placed s (at + 2 * n + 2) (λ h. or-else-placed 42 (at + 2 * n) (mineOk R C (drop at s) n) (omega arith) more)
+
+book-placed : (s : List ℕ) → Placed (length s) (bookOf s)
+unfolding bookOf minesSection
+book-placed s =
+    reaches-placed s 1 (λ one.
+    or-else-placed 41 0 (eqb (byteAt s 0) 4) (omega arith)
+    (reaches-placed s 5 (λ five.
+    or-else-placed 41 4 (leb (byteAt s 4) 1) (omega arith)
+    (or-else-placed 20 1 (sizeOk (byteAt s 1) (byteAt s 2)) (omega arith)
+    (or-else-placed 25 3 (modeOk (byteAt s 3)) (omega arith)
+    (reaches-placed s 7 (λ seven.
+    or-else-placed 24 5 (ltb (wordAt s 5) (byteAt s 1 * byteAt s 2)) (omega arith)
+    (mines-placed s (byteAt s 1) (byteAt s 2) 7 0 (wordAt s 5) (eventsFrom s (7 + 2 * wordAt s 5) (settingsAt s) 7 (wordAt s 5))
+    (events-placed s (7 + 2 * wordAt s 5) (settingsAt s) 7 (wordAt s 5))))))))))
+
+module _ (s : List ℕ) (b : Book) (e : b ≡ bookOf s) where
+  pub place-within : b .place ≤ length s
+  place-within = let p = book-placed s .within in let q = ap (λ (x : Book). x .place) e in omega arith
+
+  pub refused-printed : {out out′ : List ℕ} {r : ℕ} → (b .number ≡ 0 → ⊥) → PutWithin 33 (refusedText (b .number) (b .place)) 0 out out′ r → PutWithin 172184 (printoutOf s) 0 out out′ r
+  unfolding printoutOf
+  refused-printed h w =
+      let text : refusedText (b .number) (b .place) ≡ printoutBy s (bookOf s) = sym (printout-refused s b h) ∙ ap (printoutBy s) e in
+      let l = ap length text in
+      let m = w .short in
+      record { put = put-as text (w .put); short = omega arith }
+
+  -- ---- the boards of an accepted book --------------------------------------------------------------------------------------------------
+
+  module _ (z : b .number ≡ 0) {cells : ℕ} (k : cells ≡ b .settings .rows * b .settings .columns) where
+    pub book-cells : cells ≤ 2048
+    book-cells =
+        let w = subst (λ (x : Book). x .number ≡ 0 → sizeOk (x .settings .rows) (x .settings .columns) ≡ true) (sym e) (λ q. accepted-writable s q .size) z in
+        let c = size-cells (b .settings .rows) (b .settings .columns) w in
+        omega arith
+
+    pub book-fit : (mines : List ℤ) (shown bits work out : List ℕ) → Enough mines shown bits work out
+        → Fit (b .settings) (take cells mines) (take cells shown) (take ((cells + 7) / 8) bits) work
+    book-fit mines shown bits work out h =
+        let c = book-cells in
+        let m = h .mine in
+        let n = h .cell in
+        let o = h .byte in
+        let q = h .room in
+        record {
+          mine = length-take-le cells mines (omega arith) ∙ k;
+          cell = length-take-le cells shown (omega arith) ∙ k;
+          byte = length-take-le ((cells + 7) / 8) bits (omega arith) ∙ ap bitBytes k;
+          room = omega arith;
+        }
