@@ -254,3 +254,35 @@ pub fn print_book(
         &mut *out,
     )
 }
+
+// What a program lends: boards, bits and work for 2,048 cells, and room for every printout.
+pub fn mine_board() -> [i8; 2048]
+    ensures { λ r. ⌜ 2048 ≡ length r ⌝ }
+{
+    [0; 2048]
+}
+
+pub fn shown_board() -> [u8; 2048]
+    ensures { λ r. ⌜ 2048 ≡ length r ⌝ }
+{
+    [0; 2048]
+}
+
+pub fn flag_bits() -> [u8; 256]
+    ensures { λ r. ⌜ 256 ≡ length r ⌝ }
+{
+    [0; 256]
+}
+
+pub fn work_room() -> [u16; 16392]
+    ensures { λ r. ⌜ 16392 ≡ length r ⌝ }
+{
+    [0; 16392]
+}
+
+// Room for every printout.
+pub fn text_room() -> [u8; 172184]
+    ensures { λ r. ⌜ 172184 ≡ length r ⌝ }
+{
+    [0; 172184]
+}

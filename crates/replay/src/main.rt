@@ -12,44 +12,13 @@ fn book_buffer() -> [u8; 28680]
     [0; 28680]
 }
 
-fn mine_board() -> [i8; 2048]
-    ensures { λ r. ⌜ 2048 ≡ length r ⌝ }
-{
-    [0; 2048]
-}
-
-fn shown_board() -> [u8; 2048]
-    ensures { λ r. ⌜ 2048 ≡ length r ⌝ }
-{
-    [0; 2048]
-}
-
-fn flag_bits() -> [u8; 256]
-    ensures { λ r. ⌜ 256 ≡ length r ⌝ }
-{
-    [0; 256]
-}
-
-fn work_room() -> [u16; 16392]
-    ensures { λ r. ⌜ 16392 ≡ length r ⌝ }
-{
-    [0; 16392]
-}
-
-// Room for every printout.
-fn text_room() -> [u8; 172184]
-    ensures { λ r. ⌜ 172184 ≡ length r ⌝ }
-{
-    [0; 172184]
-}
-
 fn main() {
     let mut bytes = book_buffer();
-    let mut mines = mine_board();
-    let mut shown = shown_board();
-    let mut bits = flag_bits();
-    let mut work = work_room();
-    let mut out = text_room();
+    let mut mines = player::mine_board();
+    let mut shown = player::shown_board();
+    let mut bits = player::flag_bits();
+    let mut work = player::work_room();
+    let mut out = player::text_room();
     let n = io::read_full(STDIN_FILENO, &mut bytes);
     let r = player::print_book(
         &bytes[..n],

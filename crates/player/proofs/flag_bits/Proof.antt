@@ -1,9 +1,9 @@
--- `replay::flag_bits` meets its contract: by the law, and not by counting.
+-- `player::flag_bits` meets its contract: by the law, and not by counting.
 use mathlib.Core.Path.{sym}
 use Prim.Native.Nat.{ℕ}
 use lib.ListN.{length-replicate}
-use Rattle.replay.proofs.flag_bits.Statement.{statement}
-use Rattle.replay.proofs.flag_bits.Tie as tie
+use Rattle.player.proofs.flag_bits.Statement.{statement}
+use Rattle.player.proofs.flag_bits.Tie as tie
 
 returns : tie.Need-returns
 returns c = sym (length-replicate {0} {A = ℕ} 256 0)

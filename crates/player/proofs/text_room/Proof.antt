@@ -1,9 +1,9 @@
--- `replay::text_room` meets its contract: by the law, and not by counting.
+-- `player::text_room` meets its contract: by the law, and not by counting.
 use mathlib.Core.Path.{sym}
 use Prim.Native.Nat.{ℕ}
 use lib.ListN.{length-replicate}
-use Rattle.replay.proofs.text_room.Statement.{statement}
-use Rattle.replay.proofs.text_room.Tie as tie
+use Rattle.player.proofs.text_room.Statement.{statement}
+use Rattle.player.proofs.text_room.Tie as tie
 
 returns : tie.Need-returns
 returns c = sym (length-replicate {0} {A = ℕ} 172184 0)
