@@ -255,34 +255,46 @@ pub fn print_book(
     )
 }
 
-// What a program lends: boards, bits and work for 2,048 cells, and room for every printout.
-pub fn mine_board() -> [i8; 2048]
+// Room for one book: boards, bits and work for 2,048 cells, and every printout.
+fn mine_board() -> [i8; 2048]
     ensures { λ r. ⌜ 2048 ≡ length r ⌝ }
 {
     [0; 2048]
 }
 
-pub fn shown_board() -> [u8; 2048]
+fn shown_board() -> [u8; 2048]
     ensures { λ r. ⌜ 2048 ≡ length r ⌝ }
 {
     [0; 2048]
 }
 
-pub fn flag_bits() -> [u8; 256]
+fn flag_bits() -> [u8; 256]
     ensures { λ r. ⌜ 256 ≡ length r ⌝ }
 {
     [0; 256]
 }
 
-pub fn work_room() -> [u16; 16392]
+fn work_room() -> [u16; 16392]
     ensures { λ r. ⌜ 16392 ≡ length r ⌝ }
 {
     [0; 16392]
 }
 
-// Room for every printout.
-pub fn text_room() -> [u8; 172184]
+fn text_room() -> [u8; 172184]
     ensures { λ r. ⌜ 172184 ≡ length r ⌝ }
 {
     [0; 172184]
+}
+
+// The printout of a byte string, written to an open file.
+pub fn write_printout(fd: i32, s: &[u8])
+    requires { ⌜ length (now s) < 4294967296 ⌝ }
+{
+    let mut mines = mine_board();
+    let mut shown = shown_board();
+    let mut bits = flag_bits();
+    let mut work = work_room();
+    let mut out = text_room();
+    let n = print_book(s, &mut mines, &mut shown, &mut bits, &mut work, &mut out);
+    io::write_all(fd, &out[..n]);
 }

@@ -14,19 +14,6 @@ fn book_buffer() -> [u8; 28680]
 
 fn main() {
     let mut bytes = book_buffer();
-    let mut mines = player::mine_board();
-    let mut shown = player::shown_board();
-    let mut bits = player::flag_bits();
-    let mut work = player::work_room();
-    let mut out = player::text_room();
     let n = io::read_full(STDIN_FILENO, &mut bytes);
-    let r = player::print_book(
-        &bytes[..n],
-        &mut mines,
-        &mut shown,
-        &mut bits,
-        &mut work,
-        &mut out,
-    );
-    io::write_all(STDOUT_FILENO, &out[..r]);
+    player::write_printout(STDOUT_FILENO, &bytes[..n]);
 }
