@@ -116,7 +116,7 @@ pub fn refusal_on(p: Position, code: u8, row: u8, column: u8, shown: &[u8]) -> u
 }
 
 // The event of three bytes that starts at a place of a row of events.
-fn step_from(
+pub fn step_from(
     p: Position,
     events: &[u8],
     at: usize,

@@ -3,16 +3,14 @@
 ghost use mathlib.Core.Path.{_≡_};
 ghost use mathlib.Core.List.{_∷_, [], _++_};
 ghost use Prim.Native.Nat.{_+_, _*_, _<_, _≤_};
-ghost use lib.ListN.{length, getD, drop, replicate};
+ghost use lib.ListN.{length, drop, replicate};
 ghost use Rattle.rules.specs.States.{gameNumber, mouseNumber};
 ghost use Rattle.rules.specs.Judging.{leftToSolve};
 ghost use Rattle.rules.specs.Clicks.{desk};
-ghost use Rattle.rules.specs.Step.{stepOn};
 ghost use Rattle.rules.specs.Book.{bookOf};
 ghost use Rattle.rules.specs.Printout.{lineOf, endLines, printoutOf};
 ghost use Rattle.cells.specs.Ground.{Mined};
 ghost use Rattle.keep.specs.Kept.{LawfulAt};
-ghost use Rattle.events.specs.Able.{Plays};
 ghost use Rattle.game.specs.Core.{Blank};
 ghost use Rattle.text.specs.Put.{PutWithin, RowsFit};
 ghost use Rattle.player.specs.Printing.{EventsFit, EventsPrinted, Fit, Begun, Enough};
@@ -44,36 +42,6 @@ fn clear(work: &mut [u16], n: usize)
     for i in 0..n {
         work[i] = 0;
     }
-}
-
-// The event of three bytes that starts at a place of a row of events.
-fn step_from(
-    p: Position,
-    events: &[u8],
-    k: usize,
-    mines: &[i8],
-    shown: &mut [u8],
-    bits: &mut [u8],
-    work: &mut [u16],
-) -> Played
-    requires { ⌜ LawfulAt (now mines) (desk p (now shown) (now bits)) ⌝ }
-    requires { ⌜ Blank (p .settings) (now work) ⌝ }
-    requires { ⌜ k + 3 ≤ length (now events) ⌝ }
-    ensures { λ r. ⌜ Plays (stepOn (now (mines .entry)) (getD (now (events .entry)) k 0) (getD (now (events .entry)) (k + 1) 0) (getD (now (events .entry)) (k + 2) 0)) p (now (shown .entry)) (now (bits .entry)) (now (work .entry)) r (now (shown .exit)) (now (bits .exit)) (now (work .exit)) ⌝ }
-{
-    let code = events[k];
-    let row = events[k + 1];
-    let column = events[k + 2];
-    game::step_on(
-        p,
-        code,
-        row,
-        column,
-        mines,
-        &mut *shown,
-        &mut *bits,
-        &mut *work,
-    )
 }
 
 // The line of a play, accepted or refused.
@@ -120,7 +88,7 @@ fn play_events(
     };
     while k < events.len() {
         let q = o.position;
-        o = step_from(q, events, k, mines, &mut *shown, &mut *bits, &mut *work);
+        o = game::step_from(q, events, k, mines, &mut *shown, &mut *bits, &mut *work);
         place = put_play(&mut *out, place, number, o);
         if 20 <= o.answer {
             let refused = o.position;
