@@ -1,6 +1,6 @@
 // What the bench calls: inner functions under plain names, numbers and slices only.
 ghost use mathlib.Core.List.{[], _∷_};
-ghost use Prim.Native.Nat.{ℕ, _*_, _<_};
+ghost use Prim.Native.Nat.{_*_, _<_};
 ghost use Rattle.rules.specs.Lent.{workRoom};
 ghost use Rattle.cells.specs.Ground.{Fitting, Zeros};
 ghost use Rattle.opening.specs.Parts.{Refreshed};

@@ -1,11 +1,10 @@
--- What the calls make: a whole list filled, work cleared and the total counted, a fresh desk, and one equation for each answer.
+-- What the calls make: the total counted on cleared work, a fresh desk, and one equation for each answer.
 use mathlib.Core.Path.{_≡_, ap, ap₂, sym, _∙_}
-use mathlib.Core.List.{List, _++_, append-nil}
+use mathlib.Core.List.{List, _++_}
 use Prim.Native.Nat.{ℕ, _+_, _-_, _*_, _<_, _≤_}
 use native.Mathlib.Omega.{arith}
 use borrow.Author.Tests.{eq-eqb, ne-eqb, le-leb, lt-leb}
-use lib.ListN.{length, drop, replicate, List·getD-append, length-replicate, getD-replicate}
-use lib.Seq.{drop-length}
+use lib.ListN.{length, drop, replicate}
 use lib.IntN.{ℤ}
 use Rattle.rules.specs.declared.Settings.{Settings}
 use Rattle.rules.specs.declared.Position.{Position}
@@ -17,22 +16,11 @@ use Rattle.rules.specs.Judging.{total3bv}
 use Rattle.rules.specs.Clicks.{Desk}
 use Rattle.rules.specs.Calls.{SetUp, answers, setUp, setupBy, setupRefusal, setupOf, resetOf, totalRefusal, totalOf, positionCheck, lentRefusal, gameStateOf, bbbvSolvedOf, leftToSolveOf}
 use Rattle.cells.specs.Ground.{Sized, Mined, Zeros}
+use Rattle.cells.proofs.Filling.{cleared-zeros}
 use Rattle.judging.specs.Parts.{Lent}
 use Rattle.judging.proofs.Judging.{total-cells}
 use Rattle.board.specs.Promises.{totals, asks}
 use Rattle.board.specs.Parts.{TotalMade}
-
--- ---- lent lists ------------------------------------------------------------------------------------------------------------------------
-
--- a fill that has passed every entry
-pub fill-whole : (l : List ℕ) (v i : ℕ) (l′ : List ℕ) → i ≤ length l → length l ≤ i → l′ ≡ replicate i v ++ drop i l → l′ ≡ replicate (length l) v
-fill-whole l v i l′ h k e =
-    let d : i ≡ length l = omega arith in
-    e ∙ ap (λ (n : ℕ). replicate n v ++ drop n l) d ∙ ap (λ (x : List ℕ). replicate (length l) v ++ x) (drop-length l) ∙ append-nil (replicate (length l) v)
-
--- what is cleared is 0
-pub cleared-zeros : (n : ℕ) (w : List ℕ) → Zeros n (replicate n 0 ++ drop n w)
-cleared-zeros n w i h = List·getD-append (replicate n 0) (drop n w) 0 i (rw (length-replicate {0} {A = ℕ} n 0) h) ∙ getD-replicate n i 0 0 h
 
 -- ---- the total -------------------------------------------------------------------------------------------------------------------------
 

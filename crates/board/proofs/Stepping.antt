@@ -1,5 +1,5 @@
 -- A step and a row of events as public calls: how each way through the code is the definition's outcome.
-use mathlib.Core.Path.{_≡_, _∙_, sym, ap, ap₂, refl, subst}
+use mathlib.Core.Path.{_≡_, _∙_, sym, ap, ap₂, refl}
 use mathlib.Core.Bool.{Bool, true, false, _&&_}
 use mathlib.Core.List.{List, [], _∷_, _++_}
 use Prim.Native.Nat.{ℕ, _+_, _*_, _%_, _<_, _≤_}
@@ -20,16 +20,16 @@ use Rattle.rules.specs.Clicks.{Desk, Play, desk, done}
 use Rattle.rules.specs.Step.{pointerOf, refusalAt, playAt, stepAt, stepBy, stepOn}
 use Rattle.rules.specs.Lawful.{lawful}
 use Rattle.rules.specs.Calls.{answers, outcome, cellsIn, boardsFit, workFits, positionRefusal, lentRefusal, stepOf, plays, lastPlay, anyAccepted, flowRefusal, flowOf}
-use Rattle.keep.specs.Kept.{LawfulAt, Follows}
+use Rattle.keep.specs.Kept.{LawfulAt}
 use Rattle.cells.proofs.Words.{and-left, and-right}
 use Rattle.keep.proofs.Lawful.{settings-accepted, lent-lawful, flow-lawful}
 use Rattle.keep.proofs.Step.{step-follows, plays-follow}
 use Rattle.game.specs.Core.{refusalBy, refusalOn, firstRefusal, flowOn}
 use Rattle.game.proofs.Flows.{three}
 use Rattle.board.specs.Parts.{Blanked}
-use Rattle.board.proofs.Making.{cleared-zeros}
+use Rattle.cells.proofs.Filling.{cleared-zeros}
 use Rattle.board.proofs.Refusals.{lent-mined}
-use Rattle.game.proofs.Answers.{play-answers, Refuses, refusal-refuses, refused-from}
+use Rattle.game.proofs.Answers.{play-answers, refusal-refuses, refused-from}
 
 -- ---- one event -------------------------------------------------------------------------------------------------------------------------
 

@@ -2,9 +2,9 @@
 // (specs/Promises.antt), determines the answer, the position, the value and every lent list. The refusals are found before anything is written.
 ghost use mathlib.Core.Path.{_≡_};
 ghost use mathlib.Core.Bool.{true};
-ghost use mathlib.Core.List.{_++_, List};
+ghost use mathlib.Core.List.{List};
 ghost use Prim.Native.Nat.{_+_, _-_, _*_, _<_, _≤_, ℕ, _%_};
-ghost use lib.ListN.{length, drop, replicate};
+ghost use lib.ListN.{length};
 ghost use Rattle.rules.specs.Lent.{workRoom};
 ghost use Rattle.rules.specs.Clicks.{desk};
 ghost use Rattle.rules.specs.Calls.{answers, boardsFit, workFits, modeOk, settingsRefusal, positionRefusal, lentRefusal, setUp, setupBy, setupRefusal, totalRefusal, cellsIn, flowRefusal};
@@ -28,26 +28,6 @@ fn wide(x: u8) -> usize
 }
 
 // ---- what is lent ----------------------------------------------------------------------------------------------------------------------
-
-fn fill(bytes: &mut [u8], v: u8)
-    ensures { λ _. ⌜ now (bytes .exit) ≡ replicate (length (now (bytes .entry))) v ⌝ }
-{
-    let mut i = 0;
-    while i < bytes.len() {
-        bytes[i] = v;
-        i += 1;
-    }
-}
-
-// The first n entries become 0.
-fn clear(work: &mut [u16], n: usize)
-    requires { ⌜ n ≤ length (now work) ⌝ }
-    ensures { λ _. ⌜ now (work .exit) ≡ replicate n 0 ++ drop n (now (work .entry)) ⌝ }
-{
-    for i in 0..n {
-        work[i] = 0;
-    }
-}
 
 fn boards_fit(s: Settings, mines: &[i8], shown: &[u8], bits: &[u8]) -> bool
     ensures { λ r. ⌜ r ≡ boardsFit s (now (mines .entry)) (now (shown .entry)) (now (bits .entry)) ⌝ }
@@ -160,7 +140,7 @@ fn total_on(rows: u8, columns: u8, mines: &[i8], work: &mut [u16]) -> u32
     ensures { λ r. ⌜ TotalMade (now (mines .entry)) rows columns (now (work .entry)) r (now (work .exit)) ⌝ }
 {
     let cells = boards::cell_count(rows, columns);
-    clear(&mut *work, 8 * cells + 8);
+    cells::clear(&mut *work, 8 * cells + 8);
     let total = judging::total_3bv(mines, &mut *work, wide(rows), wide(columns));
     total as u32
 }
@@ -192,8 +172,8 @@ fn set_up(n: u16, otherwise: Position, s: Settings, shown: &mut [u8], bits: &mut
     if n != 0 {
         return answer(n, otherwise, 0);
     }
-    fill(&mut *shown, 10);
-    fill(&mut *bits, 0);
+    cells::fill(&mut *shown, 10);
+    cells::fill(&mut *bits, 0);
     let p = rules::fresh(s);
     answer(0, p, 0)
 }
@@ -299,7 +279,7 @@ fn blank(s: Settings, work: &mut [u16])
     ensures { λ _. ⌜ Blanked s (now (work .entry)) (now (work .exit)) ⌝ }
 {
     let cells = boards::cell_count(s.rows, s.columns);
-    clear(&mut *work, 8 * cells + 8);
+    cells::clear(&mut *work, 8 * cells + 8);
 }
 
 // A step tests all, 20 to 33.

@@ -1,16 +1,16 @@
 -- What an opened cell shows: the signed test and cast of the code, at a value of the board; and a cell looked at.
-use mathlib.Core.Path.{_≡_, refl, ap, ap₂, sym, _∙_}
+use mathlib.Core.Path.{_≡_, refl, ap, sym, _∙_}
 use mathlib.Core.Bool.{Bool, true, false, true≢false, false≢true}
-use Prim.Native.Nat.{ℕ, zero, suc, _+_, _<_, _≤_, _^_, zero-le}
-use borrow.Author.Tests.{le-ltb, ltb-true, ltb-false, le-leb, lt-leb, leb-true, eq-eqb, ne-eqb, eqb-true}
+use Prim.Native.Nat.{ℕ, zero, suc, _+_, _≤_, zero-le}
+use borrow.Author.Tests.{le-ltb, leb-true, ne-eqb, eqb-true}
 use native.Mathlib.Omega.{arith}
 use mathlib.Core.List.{List}
-use lib.Dec.{T, leb, eqb, ltb}
+use lib.Dec.{T, eqb}
 use lib.ListN.{length, getD, List·getD-eq-default}
 use lib.IntN.{ℤ, pos, negsuc, natAbs}
 use lib.Signed.{ltZ, nonNeg}
 use mir.Syntax.{w8}
-use mir.Val.{Fits, SFits, toZ, ofZ}
+use mir.Val.{Fits, toZ, ofZ}
 use mir.ValLaws.{toZ-ofZ}
 use Rattle.rules.specs.Words.{bit}
 use Rattle.rules.specs.Board.{face, valueOk}

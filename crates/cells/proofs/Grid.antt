@@ -1,19 +1,18 @@
 -- Laws of the grid: a neighbour is a cell or none, it is found from its row and column, and place 7 - k leads back; counts and stacks around a cell.
 use mathlib.Core.Path.{_≡_, refl, ap, ap₂, sym, _∙_}
 use mathlib.Core.Bool.{Bool, true, false, _&&_}
-use mathlib.Core.List.{List, [], _∷_}
+use mathlib.Core.List.{List}
 use Prim.Native.Nat.{ℕ, zero, suc, _+_, _-_, _*_, _/_, _%_, _<_, _≤_}
-use native.Mathlib.Nat.{mul-le-mul-right, suc-mul, div-add-mod'}
+use native.Mathlib.Nat.{div-add-mod'}
 use native.Mathlib.Omega.{arith}
-use native.Mathlib.Numerals.{add-one}
 use lib.Arith.{digits-lt, digits-div, digits-mod}
-use borrow.Author.Tests.{leb-true, leb-false, le-leb, lt-leb}
-use lib.Dec.{ltb, leb, eqb}
-use lib.ListN.{length, getD}
-use Rattle.rules.specs.Words.{pick, bit, count}
+use borrow.Author.Tests.{leb-true}
+use lib.Dec.{leb}
+use lib.ListN.{length}
+use Rattle.rules.specs.Words.{bit, count}
 use Rattle.rules.specs.Grid.{sizeOk, cellOf, ninth, cellBefore, neighbour, around, pushIf, pushed}
 use Rattle.cells.specs.Ground.{Sized, Below}
-use Rattle.cells.proofs.Words.{and-left, and-right, and-both, pick-both, pick-le, count-same, count-turn, count-le}
+use Rattle.cells.proofs.Words.{and-left, and-right, pick-le, count-same, count-turn, count-le}
 
 -- the size test gives the limits
 pub size-limits : (R C : ℕ) → sizeOk R C ≡ true → Sized R C

@@ -1,3 +1,4 @@
 pub mod Words
 pub mod Grid
 pub mod Face
+pub mod Filling

@@ -1,17 +1,15 @@
 -- Laws of the words: tests and choices, counting and testing below a number, rounds, and stacks in the first entries of a list.
 use mathlib.Core.Path.{_≡_, refl, ap, ap₂, sym, _∙_}
-use mathlib.Core.Bool.{Bool, true, false, not, true≢false, false≢true, _&&_, _||_}
-use mathlib.Core.List.{List, [], _∷_, _++_}
-use Prim.Native.Nat.{ℕ, zero, suc, _+_, _-_, _*_, _<_, _≤_}
+use mathlib.Core.Bool.{Bool, true, false, true≢false, false≢true, _&&_}
+use mathlib.Core.List.{List, [], _∷_}
+use Prim.Native.Nat.{ℕ, zero, suc, _+_, _-_, _<_, _≤_}
 use native.Mathlib.Omega.{arith}
 use native.Mathlib.Numerals.{add-one}
 use native.Mathlib.Decide.{ℕ-discrete}
-use lib.Dec.{eqb, leb, ltb}
-use lib.ListN.{length, getD, set, length-set, length-append}
-use lib.Seq.{getD-set-same, getD-set-other, getD-append-add}
-use lib.ListN.{List·getD-append}
-use Rattle.rules.specs.Words.{pick, unless, bit, count, every, inOrder, stackOf, below, rounds}
-use Rattle.cells.specs.Ground.{Below, Zeros}
+use lib.ListN.{length, getD, set, length-append}
+use lib.Seq.{getD-set-same, getD-set-other}
+use Rattle.rules.specs.Words.{pick, unless, bit, count, every, inOrder, stackOf, rounds}
+use Rattle.cells.specs.Ground.{Below}
 
 -- ---- tests and choices -----------------------------------------------------------------------------------------------------------------
 

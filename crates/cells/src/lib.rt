@@ -1,8 +1,9 @@
-// Leaves over the boards: the neighbours of a cell in row order, what a cell shows once open, and counts around a cell.
+// Leaves over the boards: the neighbours of a cell in row order, what a cell shows once open, counts around a cell, and lent lists filled.
 // A cell is given by its row and column, which its caller takes apart once. The contracts cite rules' Grid and Board, and specs/Ground.
 ghost use mathlib.Core.Path.{_≡_};
-ghost use Prim.Native.Nat.{ℕ, _+_, _*_, _/_, _%_, _<_, _≤_};
-ghost use lib.ListN.{length};
+ghost use mathlib.Core.List.{_++_};
+ghost use Prim.Native.Nat.{_+_, _*_, _/_, _%_, _<_, _≤_};
+ghost use lib.ListN.{length, drop, replicate};
 ghost use Rattle.rules.specs.Words.{bit};
 ghost use Rattle.rules.specs.Grid.{cellOf, ninth, cellBefore, around};
 ghost use Rattle.rules.specs.Board.{faceAt};
@@ -145,4 +146,26 @@ pub fn faces_around(
         n += one;
     }
     n
+}
+
+// ---- lent lists ------------------------------------------------------------------------------------------------------------------------
+
+pub fn fill(bytes: &mut [u8], v: u8)
+    ensures { λ _. ⌜ now (bytes .exit) ≡ replicate (length (now (bytes .entry))) v ⌝ }
+{
+    let mut i = 0;
+    while i < bytes.len() {
+        bytes[i] = v;
+        i += 1;
+    }
+}
+
+// The first n entries become 0.
+pub fn clear(work: &mut [u16], n: usize)
+    requires { ⌜ n ≤ length (now work) ⌝ }
+    ensures { λ _. ⌜ now (work .exit) ≡ replicate n 0 ++ drop n (now (work .entry)) ⌝ }
+{
+    for i in 0..n {
+        work[i] = 0;
+    }
 }

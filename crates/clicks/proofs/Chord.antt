@@ -11,7 +11,7 @@ use lib.ListN.{length, getD}
 use lib.IntN.{ℤ}
 use Rattle.rules.specs.declared.Counts.{Counts}
 use Rattle.rules.specs.declared.Secrets.{Secrets}
-use Rattle.rules.specs.Grid.{neighbour, around}
+use Rattle.rules.specs.Grid.{around}
 use Rattle.rules.specs.Opening.{closedAt, refreshed}
 use Rattle.rules.specs.Judging.{openingsJudged, lones}
 use Rattle.rules.specs.Clicks.{Desk, desk, rowsOf, columnsOf, cellsOf, flagAt, chordIsUseful, closedAround, chordCounts, chordOpens, ended, performChord}

@@ -1,13 +1,12 @@
 -- The win test in two parts: from a place to the end, and from the beginning to that place.
-use mathlib.Core.Path.{_≡_, _∙_, sym, refl}
+use mathlib.Core.Path.{_≡_, sym, refl}
 use mathlib.Core.Bool.{Bool, true, false, _||_, true≢false, false≢true}
 use mathlib.Core.List.{List}
-use Prim.Native.Nat.{ℕ, suc, _+_, _<_, _≤_}
+use Prim.Native.Nat.{ℕ, _+_, _<_, _≤_}
 use native.Mathlib.Omega.{arith}
 use native.Mathlib.Decide.{decLt}
 use lib.ListN.{length}
 use lib.IntN.{ℤ}
-use Rattle.rules.specs.Words.{every}
 use Rattle.rules.specs.Clicks.{doneAt, isWon}
 use Rattle.cells.proofs.Words.{every-all, every-fails}
 use Rattle.clicks.specs.Room.{DoneBetween}

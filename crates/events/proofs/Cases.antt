@@ -1,28 +1,25 @@
 -- One equation for each case of each definition of Step, over plain variables: a function's proof cites the one of its branch.
-use mathlib.Core.Path.{_≡_, _∙_, sym, ap, refl}
+use mathlib.Core.Path.{_≡_, _∙_, ap}
 use mathlib.Core.Bool.{Bool, true, false, not, _&&_}
 use mathlib.Core.List.{List}
-use Prim.Native.Nat.{ℕ, _+_, _-_, _*_, _<_, _≤_}
+use Prim.Native.Nat.{ℕ, _+_, _-_, _<_, _≤_}
 use borrow.Author.Tests.{eq-eqb, ne-eqb, le-leb, lt-leb}
-use lib.Dec.{eqb, leb}
-use lib.ListN.{length, getD, replicate}
+use lib.Dec.{eqb}
+use lib.ListN.{getD}
 use lib.IntN.{ℤ}
 use Rattle.rules.specs.declared.Position.{Position}
 use Rattle.rules.specs.declared.Played.{Played}
 use Rattle.rules.specs.declared.Pointer.{Pointer}
 use Rattle.rules.specs.declared.Pointer.the-variants.{Cell, Off}
-use Rattle.rules.specs.declared.Event.{Event}
-use Rattle.rules.specs.declared.Event.the-variants.{Lc, Lr, Rc, Rr, Mv, Mc, Mr, Cc, Pf, Unknown}
-use Rattle.rules.specs.declared.GameState.{GameState}
-use Rattle.rules.specs.declared.GameState.the-variants.{Ready, Playing, Win, Loss, PreFlaging}
+use Rattle.rules.specs.declared.Event.the-variants.{Mr}
+use Rattle.rules.specs.declared.GameState.the-variants.{Ready, Playing, PreFlaging}
 use Rattle.rules.specs.declared.MouseState.the-variants.{UpDownNotFlag}
-use Rattle.rules.specs.Words.{pick}
-use Rattle.rules.specs.States.{mouseNumber, withLeft, withRight, withGame, withMouse, withMiddle, withPreflags, zeroed}
+use Rattle.rules.specs.States.{mouseNumber, withLeft, withRight, withGame, withMouse, withMiddle, withPreflags}
 use Rattle.rules.specs.Grid.{cellOf}
-use Rattle.rules.specs.Clicks.{Desk, Play, desk, done, leftClick}
+use Rattle.rules.specs.Clicks.{desk, done, leftClick}
 use Rattle.rules.specs.Passes.{rightClick, chordingClick}
 use Rattle.rules.specs.Mouse.{moved}
-use Rattle.rules.specs.Step.{seenAt, leftAt, rightAt, chordAt, chordFrom, playLc, playLr, playRc, playRr, playing, preFlag, readyLc, readyRc, ready, cleared, clearedIf, backIf, preLeft, preLr, lastTakenBack, preCell, preRight, backToReady, preRc, preFlaging, byGame, onCell, move}
+use Rattle.rules.specs.Step.{seenAt, leftAt, rightAt, chordAt, chordFrom, playLc, playLr, playRc, playRr, playing, preFlag, readyLc, readyRc, cleared, clearedIf, backIf, preLeft, preLr, lastTakenBack, preCell, preRight, backToReady, preRc, onCell, move}
 
 module _ (B : List ℤ) (x : Pointer) (p q : Position) (shown bits : List ℕ) where
   pub left-at-cell : (r c i : ℕ) → x ≡ Cell r c → i ≡ cellOf (p .settings .columns) r c → leftAt B x (desk p shown bits) ≡ leftClick B i (desk p shown bits)

@@ -1,27 +1,26 @@
 -- How an action's outcome follows from that of the function it calls, and what a changed position still is able to.
-use mathlib.Core.Path.{_≡_, _∙_, sym, ap, refl, subst}
+use mathlib.Core.Path.{_≡_, _∙_, sym, refl, subst}
 use mathlib.Core.List.{List}
-use Prim.Native.Nat.{ℕ, _+_, _-_, _*_, _<_, _≤_}
+use Prim.Native.Nat.{ℕ, _-_, _*_, _<_, _≤_}
 use native.Mathlib.Omega.{arith}
-use lib.ListN.{length, getD}
+use lib.ListN.{getD}
 use lib.IntN.{ℤ}
 use lib.Arith.{digits-lt}
 use Rattle.rules.specs.declared.Position.{Position}
 use Rattle.rules.specs.declared.Settings.{Settings}
 use Rattle.rules.specs.declared.Played.{Played}
 use Rattle.rules.specs.declared.Pointer.{Pointer}
-use Rattle.rules.specs.declared.Pointer.the-variants.{Cell, Off}
+use Rattle.rules.specs.declared.Pointer.the-variants.{Cell}
 use Rattle.rules.specs.declared.Event.{Event}
 use Rattle.rules.specs.declared.GameState.{GameState}
 use Rattle.rules.specs.States.{withRight, withGame, withPreflags, mouseNumber}
 use Rattle.rules.specs.Grid.{cellOf}
 use Rattle.rules.specs.Clicks.{Desk, Play, desk, done}
 use Rattle.rules.specs.Mouse.{moved}
-use Rattle.rules.specs.Lent.{bitBytes}
-use Rattle.clicks.specs.Room.{Laid, Roomy, LeftRoom, Acts}
+use Rattle.clicks.specs.Room.{Laid, LeftRoom, Acts}
 use Rattle.passes.specs.Passing.{Prepared, RightRoom, ChordRoom, Leaves}
 use Rattle.keep.specs.Kept.{Inside, InsideOf}
-use Rattle.events.specs.Able.{Able, AbleAt, Plays}
+use Rattle.events.specs.Able.{AbleAt, Plays}
 
 module _ {F : Desk → Play} {p : Position} {shown bits work : List ℕ} where
   -- the called function's outcome is this one's

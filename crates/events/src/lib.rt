@@ -1,14 +1,14 @@
 // One plain event in each of the live game states, over the position by value and the lent boards.
 // Each function meets the definition of its name in rules' Step; specs/Able says what an event requires of a desk.
 ghost use mathlib.Core.Path.{_≡_};
-ghost use mathlib.Core.Bool.{Bool, true, false, not, _&&_};
+ghost use mathlib.Core.Bool.{true, false, not, _&&_};
 ghost use mathlib.Core.List.{List};
 ghost use Prim.Native.Nat.{ℕ, _+_, _*_, _<_, _≤_};
 ghost use lib.Dec.{eqb};
 ghost use lib.ListN.{length, getD, replicate};
 ghost use Rattle.rules.specs.declared.GameState.the-variants.{PreFlaging};
-ghost use Rattle.rules.specs.States.{mouseNumber, withLeft, withRight, withGame, withMiddle, zeroed};
-ghost use Rattle.rules.specs.Clicks.{desk, done, on, addLeft};
+ghost use Rattle.rules.specs.States.{mouseNumber, withLeft, withRight, withMiddle, zeroed};
+ghost use Rattle.rules.specs.Clicks.{desk, done};
 ghost use Rattle.rules.specs.Passes.{rightClick};
 ghost use Rattle.rules.specs.Mouse.{moved};
 ghost use Rattle.rules.specs.Step.{onCell, move, leftAt, rightAt, chordAt, chordFrom, playLc, playLr, playRc, playRr, playing as playingOf, preFlag, readyLc, readyRc, ready as readyOf, cleared, clearedIf, backIf, preLeft, preLr, lastTakenBack, preCell, preRight, backToReady, preRc, preFlaging as preFlagingOf, byGame};

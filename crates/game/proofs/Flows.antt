@@ -1,16 +1,13 @@
 -- A row of events, one event after the other: what the loop keeps, and how it ends.
 use mathlib.Core.Path.{_≡_, _∙_, sym, ap, refl, subst}
-use mathlib.Core.Bool.{Bool, true, false}
 use mathlib.Core.List.{List, [], _∷_}
 use Prim.Native.Nat.{ℕ, suc, _+_, _*_, _%_, _<_, _≤_}
 use native.Mathlib.Omega.{arith}
-use native.Mathlib.Numerals.{add-one}
 use borrow.Author.Tests.{le-leb, lt-leb}
 use lib.Dec.{leb}
 use lib.ListN.{length, getD, drop}
 use lib.Seq.{drop-cons, drop-length}
 use lib.IntN.{ℤ}
-use Rattle.rules.specs.declared.Position.{Position}
 use Rattle.rules.specs.declared.Played.{Played}
 use Rattle.rules.specs.Words.{pick}
 use Rattle.rules.specs.Clicks.{Desk, Play, desk, done}

@@ -1,8 +1,7 @@
 -- Boards that tell the walks from their look-alikes.
 use mathlib.Core.Path.{_≡_, refl}
-use mathlib.Core.List.{List, [], _∷_}
-use Prim.Native.Nat.{ℕ}
-use lib.IntN.{ℤ, pos, negsuc}
+use mathlib.Core.List.{[], _∷_}
+use lib.IntN.{pos, negsuc}
 use Rattle.rules.specs.Words.{count, below}
 use Rattle.rules.specs.Grid.{ninth, cellBefore, neighbour, around, pushed}
 use Rattle.rules.specs.Board.{zeroAt, loneAt}

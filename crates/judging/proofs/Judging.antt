@@ -1,18 +1,17 @@
 -- What judging counts: at most one for a safe cell and none for a mine, as an opening or as a lone number; and the marks keep their length.
-use mathlib.Core.Path.{_≡_, refl, ap, ap₂, sym, _∙_}
+use mathlib.Core.Path.{_≡_, refl, ap, _∙_}
 use mathlib.Core.Bool.{Bool, true, false, _&&_, not}
 use mathlib.Core.List.{List, [], _∷_}
-use Prim.Native.Nat.{ℕ, zero, suc, _+_, _-_, _*_, _<_, _≤_}
+use Prim.Native.Nat.{ℕ, zero, suc, _+_, _-_, _*_, _≤_}
 use native.Mathlib.Omega.{arith}
-use borrow.Author.Tests.{eq-eqb, ne-eqb, eqb-true, eqb-false, lt-leb}
-use lib.Dec.{leb, eqb}
+use borrow.Author.Tests.{eq-eqb, ne-eqb, eqb-true, eqb-false}
+use lib.Dec.{eqb}
 use lib.ListN.{length, set, length-set, length-replicate}
-use lib.IntN.{ℤ, pos}
+use lib.IntN.{ℤ}
 use Rattle.rules.specs.Words.{pick, bit, below}
-use Rattle.rules.specs.Grid.{pushed, around}
-use Rattle.rules.specs.Board.{faceAt, mineAt, zeroAt, loneAt}
+use Rattle.rules.specs.Board.{faceAt, loneAt}
 use Rattle.rules.specs.Opening.{turns}
-use Rattle.rules.specs.Judging.{freeAt, Kind, pass, stop, mark, kind, walk, walkFrom, Walked, Tally, counted, judgeOne, tally, openingsJudged, lones, total3bv}
+use Rattle.rules.specs.Judging.{freeAt, Kind, pass, stop, mark, kind, walk, walkFrom, Tally, counted, judgeOne, tally, openingsJudged, lones, total3bv}
 use Rattle.judging.specs.Joining.{among, safeAt}
 use Rattle.cells.proofs.Words.{bit-le}
 use Rattle.judging.proofs.Turns.{walk-zero, walk-nil, walk-pass, walk-stop, walk-mark}

@@ -1,19 +1,19 @@
 -- Lone numbers: the ways through the code, and their counts over a chord's cells, a row and the board.
 use mathlib.Core.Path.{_≡_, refl, ap, ap₂, sym, _∙_}
-use mathlib.Core.Bool.{Bool, true, false}
-use mathlib.Core.List.{List, [], _∷_}
-use Prim.Native.Nat.{ℕ, zero, suc, _+_, _*_, _/_, _%_, _<_, _≤_}
+use mathlib.Core.Bool.{Bool, false}
+use mathlib.Core.List.{List, []}
+use Prim.Native.Nat.{ℕ, _+_, _*_, _/_, _%_, _<_, _≤_}
 use native.Mathlib.Nat.{suc-mul, mul-le-mul-right}
 use native.Mathlib.Omega.{arith}
 use native.Mathlib.Numerals.{add-one}
-use borrow.Author.Tests.{eq-eqb, ne-eqb, le-leb}
-use lib.Dec.{leb, eqb}
-use lib.ListN.{length, getD}
+use borrow.Author.Tests.{le-leb}
+use lib.Dec.{eqb}
+use lib.ListN.{getD}
 use lib.IntN.{ℤ, pos}
 use Rattle.rules.specs.Words.{bit, stackOf, below}
 use Rattle.rules.specs.Grid.{cellOf, around}
 use Rattle.rules.specs.Board.{faceAt, zeroAt, loneAt}
-use Rattle.rules.specs.Judging.{openingsJudged, lones, total3bv}
+use Rattle.rules.specs.Judging.{lones, total3bv}
 use Rattle.cells.specs.Ground.{Mined, faceIs}
 use Rattle.cells.proofs.Words.{bit-le, stack-length}
 use Rattle.cells.proofs.Grid.{cell-back}

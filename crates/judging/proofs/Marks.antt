@@ -1,21 +1,21 @@
 -- The marks that are kept in the work above the stack, and pushes below them.
-use mathlib.Core.Path.{_≡_, refl, ap, ap₂, sym, _∙_}
+use mathlib.Core.Path.{_≡_, refl, sym, _∙_}
 use mathlib.Core.Bool.{Bool, true, false}
-use mathlib.Core.List.{List, [], _∷_}
-use Prim.Native.Nat.{ℕ, zero, suc, _+_, _-_, _*_, _/_, _%_, _<_, _≤_}
+use mathlib.Core.List.{List}
+use Prim.Native.Nat.{ℕ, _+_, _-_, _*_, _/_, _%_, _<_, _≤_}
 use native.Mathlib.Nat.{mod-lt, div-lt-iff-lt-mul}
 use native.Mathlib.Omega.{arith}
 use native.Mathlib.Numerals.{add-one}
 use borrow.Author.Tests.{eq-eqb, ne-eqb, lt-ltb, le-ltb, eqb-true, eqb-false}
 use lib.Dec.{eqb}
-use lib.ListN.{length, getD, set, take, drop, replicate, List·getD-eq-default, length-set, length-take, length-drop, length-replicate, getD-replicate}
+use lib.ListN.{length, getD, set, List·getD-eq-default, length-set, length-take, length-drop, length-replicate, getD-replicate}
 use lib.Seq.{getD-set-same, getD-set-other, getD-take, getD-drop, ext-getD}
 use Rattle.rules.specs.Words.{stackOf}
 use Rattle.rules.specs.Grid.{neighbour, cellBefore, ninth, pushIf, pushed}
 use Rattle.rules.specs.Lent.{workRoom}
 use Rattle.rules.specs.Judging.{freeAt, unmarked}
 use Rattle.cells.specs.Ground.{Zeros}
-use Rattle.cells.proofs.Words.{stack-above, stack-push}
+use Rattle.cells.proofs.Words.{stack-push}
 use Rattle.judging.specs.Parts.{stackRoom, marksOf, Rest, Grown}
 use Rattle.judging.proofs.Turns.{free-fact}
 

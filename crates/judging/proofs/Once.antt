@@ -13,10 +13,10 @@ use Rattle.rules.specs.Words.{bit, below}
 use Rattle.rules.specs.Grid.{neighbour}
 use Rattle.rules.specs.Board.{faceAt}
 use Rattle.rules.specs.Opening.{turns}
-use Rattle.rules.specs.Judging.{freeAt, Kind, pass, stop, mark, kind, walk, walkFrom, Walked, Tally, counted, judgeOne, tally, openingsJudged}
+use Rattle.rules.specs.Judging.{freeAt, Kind, pass, stop, mark, kind, walk, walkFrom, Tally, judgeOne, tally, openingsJudged}
 use Rattle.judging.specs.Joining.{Joined, here, next}
 use Rattle.judging.proofs.Lists.{In, pushed-all}
-use Rattle.judging.proofs.Turns.{free-fact, free-other, free-kept, free-fresh, stop-means, mark-means, walk-zero, walk-nil, walk-pass, walk-stop, walk-mark, freeCount, free-le}
+use Rattle.judging.proofs.Turns.{free-fact, free-other, free-kept, free-fresh, mark-means, walk-zero, walk-nil, walk-pass, walk-stop, walk-mark, free-le}
 use Rattle.judging.proofs.Judging.{judge-zero, judge-marked, judge-number, walk-long}
 use Rattle.judging.proofs.Reach.{walk-met, walk-done, Done, joined-marked}
 

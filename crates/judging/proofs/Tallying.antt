@@ -1,8 +1,8 @@
 -- Walks put together: the work is given back, and the walks of a chord or of a whole board share their marks.
-use mathlib.Core.Path.{_≡_, refl, ap, ap₂, sym, _∙_}
+use mathlib.Core.Path.{_≡_, refl, ap, sym, _∙_}
 use mathlib.Core.Bool.{Bool, true, false, true≢false}
 use mathlib.Core.List.{List, [], _∷_, _++_}
-use Prim.Native.Nat.{ℕ, zero, suc, _+_, _-_, _*_, _<_, _≤_}
+use Prim.Native.Nat.{ℕ, _+_, _-_, _*_, _≤_}
 use native.Mathlib.Omega.{arith}
 use native.Mathlib.Numerals.{add-one}
 use borrow.Author.Tests.{ltb-true, ltb-false}
@@ -13,11 +13,11 @@ use lib.IntN.{ℤ}
 use Rattle.rules.specs.Words.{bit, stackOf, below}
 use Rattle.rules.specs.Board.{faceAt}
 use Rattle.rules.specs.Lent.{workRoom}
-use Rattle.rules.specs.Judging.{freeAt, walkFrom, judgedLeft, Walked, Tally, counted, judgeOne, tally, openingsJudged, unmarked}
+use Rattle.rules.specs.Judging.{freeAt, walkFrom, judgedLeft, Walked, Tally, counted, judgeOne, tally, openingsJudged}
 use Rattle.cells.specs.Ground.{Zeros}
 use Rattle.cells.proofs.Words.{stack-length}
 use Rattle.judging.specs.declared.Sum.{Sum}
-use Rattle.judging.specs.Parts.{marksOf, Rest, Went, Judged, Tallied, Lent, ChordJudged}
+use Rattle.judging.specs.Parts.{marksOf, Rest, Went, Judged, Tallied, ChordJudged}
 use Rattle.judging.proofs.Marks.{marks-none}
 use Rattle.judging.proofs.Judging.{judge-marked, judge-number, judge-zero, judged-length, length-below}
 

@@ -1,6 +1,6 @@
 -- A turn of a walk, kind by kind: what a kind says of its cell, what the walk goes on with, and what the turn costs.
-use mathlib.Core.Path.{_≡_, refl, ap, ap₂, sym, _∙_}
-use mathlib.Core.Bool.{Bool, true, false, _&&_, false≢true, true≢false}
+use mathlib.Core.Path.{_≡_, refl, ap, sym, _∙_}
+use mathlib.Core.Bool.{Bool, true, false, _&&_, false≢true}
 use mathlib.Core.List.{List, [], _∷_}
 use Prim.Native.Nat.{ℕ, zero, suc, _+_, _-_, _*_, _<_, _≤_}
 use native.Mathlib.Omega.{arith}
@@ -8,12 +8,12 @@ use borrow.Author.Tests.{eq-eqb, ne-eqb, lt-ltb, ltb-true, eqb-true, eqb-false}
 use lib.Dec.{ltb, eqb}
 use lib.ListN.{length, getD, set, length-set, length-replicate, getD-replicate}
 use lib.Seq.{getD-set-same, getD-set-other}
-use lib.IntN.{ℤ, pos}
+use lib.IntN.{ℤ}
 use Rattle.rules.specs.Words.{pick, bit}
 use Rattle.rules.specs.Grid.{neighbour, pushIf, pushed}
 use Rattle.rules.specs.Board.{faceAt}
 use Rattle.cells.proofs.Words.{bit-le}
-use Rattle.rules.specs.Judging.{freeAt, Kind, pass, stop, mark, kind, stackBy, marksBy, wholeBy, walk, walkFrom, Walked, unmarked}
+use Rattle.rules.specs.Judging.{freeAt, Kind, pass, stop, mark, kind, stackBy, marksBy, wholeBy, walk, unmarked}
 
 -- the stack, the marks and the judgement once a cell was taken off the stack
 abbrev pub stackNext : List ℤ → ℕ → ℕ → List ℕ → ℕ → List ℕ → List ℕ → List ℕ

@@ -14,10 +14,10 @@ use Rattle.rules.specs.Grid.{pushed}
 use Rattle.rules.specs.Board.{faceAt}
 use Rattle.rules.specs.Lent.{workRoom}
 use Rattle.rules.specs.Opening.{turns}
-use Rattle.rules.specs.Judging.{freeAt, Kind, pass, stop, mark, kind, walk, walkFrom, Walked}
+use Rattle.rules.specs.Judging.{freeAt, pass, kind, walk, walkFrom}
 use Rattle.cells.proofs.Words.{stack-above, stack-length}
 use Rattle.judging.specs.Parts.{stackRoom, marksOf, Walkable, Rest, Grown, Stepped, Went}
-use Rattle.judging.proofs.Turns.{stackNext, marksNext, wholeNext, kind-marked, kind-number, kind-flag, kind-zero, walk-nil, walk-cons, freeCount, free-le, free-pos, Cheaper, cheaper}
+use Rattle.judging.proofs.Turns.{stackNext, marksNext, wholeNext, kind-marked, kind-number, kind-flag, kind-zero, walk-nil, walk-cons, freeCount, free-le, free-pos, cheaper}
 use Rattle.judging.proofs.Marks.{marks-length, marks-frame, marks-set}
 
 none : (w : List ℕ) → stackOf w 0 ≡ []

@@ -1,14 +1,14 @@
 -- What the parts of the walks require and ensure: the marks above the stack in the lent work, one turn, one walk, one cell judged, the cells of a stack judged.
 use mathlib.Core.Path.{_≡_}
-use mathlib.Core.Bool.{Bool, true, false}
-use mathlib.Core.List.{List, [], _∷_}
-use Prim.Native.Nat.{ℕ, _+_, _*_, _<_, _≤_}
+use mathlib.Core.Bool.{Bool, false}
+use mathlib.Core.List.{List}
+use Prim.Native.Nat.{ℕ, _+_, _*_, _≤_}
 use lib.ListN.{length, getD, set, take, drop}
 use lib.IntN.{ℤ}
 use Rattle.rules.specs.Words.{stackOf, below}
 use Rattle.rules.specs.Grid.{pushed}
 use Rattle.rules.specs.Lent.{workRoom}
-use Rattle.rules.specs.Judging.{freeAt, kind, stackBy, marksBy, wholeBy, walkFrom, Walked, Tally, judgeOne, tally, openingsJudged, lones}
+use Rattle.rules.specs.Judging.{freeAt, kind, stackBy, marksBy, wholeBy, walkFrom, judgeOne, tally, openingsJudged, lones}
 use Rattle.cells.specs.Ground.{Mined}
 use Rattle.judging.specs.declared.Sum.{Sum}
 

@@ -1,11 +1,10 @@
 // The opening walks of a left click and of a chord, the lone numbers and the 3BV total. Stack and marks stand in the lent work, which comes
 // back as it was. The contracts cite rules' Judging, and specs/Parts for what the inner functions do.
 ghost use mathlib.Core.Path.{_≡_};
-ghost use mathlib.Core.Bool.{Bool, true, false};
-ghost use mathlib.Core.List.{List, _++_};
-ghost use Prim.Native.Nat.{ℕ, _+_, _-_, _*_, _<_, _≤_};
+ghost use mathlib.Core.Bool.{true, false};
+ghost use Prim.Native.Nat.{_+_, _-_, _*_, _<_, _≤_};
 ghost use lib.Dec.{eqb};
-ghost use lib.ListN.{length, getD, set, drop, replicate};
+ghost use lib.ListN.{length, getD, set};
 ghost use Rattle.rules.specs.Words.{bit, stackOf, below};
 ghost use Rattle.rules.specs.Grid.{cellOf, pushIf, pushed};
 ghost use Rattle.rules.specs.Board.{loneAt};
@@ -153,16 +152,6 @@ fn walk(
     whole
 }
 
-// The first n entries become 0.
-fn clear(work: &mut [u16], n: usize)
-    requires { ⌜ n ≤ length (now work) ⌝ }
-    ensures { λ _. ⌜ now (work .exit) ≡ replicate n 0 ++ drop n (now (work .entry)) ⌝ }
-{
-    for i in 0..n {
-        work[i] = 0;
-    }
-}
-
 // LEFT: the opening of a 0 has no cell showing 11.
 pub fn cell_is_op_completed(
     mines: &[i8],
@@ -178,7 +167,7 @@ pub fn cell_is_op_completed(
     ensures { λ r. ⌜ Lent r (judgedLeft (now (mines .entry)) rows columns (now (shown .entry)) cell) (now (work .entry)) (now (work .exit)) ⌝ }
 {
     let whole = walk(mines, shown, work, rows, columns, cell);
-    clear(work, 8 * (rows * columns) + 8);
+    cells::clear(work, 8 * (rows * columns) + 8);
     whole
 }
 
@@ -273,7 +262,7 @@ pub fn op_num_around_cell(
     let at = cells.at;
     let sum = judge_cells(mines, shown, work, rows, columns, at, cells.n);
     if sum.walked {
-        clear(work, 8 * (rows * columns) + 8);
+        cells::clear(work, 8 * (rows * columns) + 8);
     }
     sum.count
 }
@@ -386,7 +375,7 @@ pub fn total_3bv(mines: &[i8], work: &mut [u16], rows: usize, columns: usize) ->
 {
     let none = [0u8; 0];
     let openings = judge_board(mines, &none, work, rows, columns);
-    clear(work, 8 * (rows * columns) + 8);
+    cells::clear(work, 8 * (rows * columns) + 8);
     let numbers = lone_board(mines, rows, columns);
     openings.count + numbers
 }

@@ -5,7 +5,6 @@ use Prim.Native.Nat.{ℕ, _*_}
 use lib.ListN.{take}
 use lib.IntN.{ℤ}
 use Rattle.rules.specs.declared.Settings.{Settings}
-use Rattle.rules.specs.Clicks.{Desk}
 use Rattle.rules.specs.Calls.{Outcome, SetUp, setupOf, flowOf}
 use Rattle.keep.specs.Kept.{setBy}
 use Rattle.secrecy.specs.Public.{seenOf}

@@ -6,7 +6,7 @@ use lib.ListN.{take}
 use lib.IntN.{ℤ}
 use Rattle.rules.specs.declared.Settings.{Settings}
 use Rattle.rules.specs.declared.Answer.{Answer}
-use Rattle.rules.specs.Calls.{Outcome, outcome}
+use Rattle.rules.specs.Calls.{Outcome}
 use Rattle.board.specs.Promises.{SetupIs, StepFlowIs}
 use Rattle.secrecy.specs.Demand.{Twins}
 use Rattle.secrecy.specs.Public.{seenOf}

@@ -1,8 +1,8 @@
 // What the hand's codes mean: the table of the seven mouse states, resolving l, r and m, pointers and events, and the refusals 30 to 33.
 // Nothing here writes. The contracts cite rules' Mouse and Step.
 ghost use mathlib.Core.Path.{_≡_};
-ghost use mathlib.Core.Bool.{Bool, true, false, not, _&&_, _||_};
-ghost use mathlib.Core.List.{List, []};
+ghost use mathlib.Core.Bool.{true, false, not, _&&_, _||_};
+ghost use mathlib.Core.List.{List};
 ghost use Prim.Native.Nat.{ℕ, _+_, _*_, _<_};
 ghost use lib.Dec.{eqb, ltb};
 ghost use lib.ListN.{getD};

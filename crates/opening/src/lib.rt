@@ -1,9 +1,9 @@
 // Opening cells: `refresh_board` over flat lent slices, with the lent work as its stack. A cell is opened when it is found, and only a 0 goes on
 // the stack: specs/Quick says so, and proofs/Quick that the outcome is that of rules' Opening. The laws of opening stand in proofs/Opening.
 ghost use mathlib.Core.Path.{_≡_};
-ghost use mathlib.Core.Bool.{Bool, true, false};
-ghost use mathlib.Core.List.{List, []};
-ghost use Prim.Native.Nat.{ℕ, _+_, _-_, _*_, _<_, _≤_};
+ghost use mathlib.Core.Bool.{true, false};
+ghost use mathlib.Core.List.{[]};
+ghost use Prim.Native.Nat.{_+_, _-_, _*_, _<_, _≤_};
 ghost use lib.ListN.{length, getD, set};
 ghost use Rattle.rules.specs.Words.{stackOf};
 ghost use Rattle.rules.specs.Grid.{cellOf};

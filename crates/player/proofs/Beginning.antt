@@ -1,13 +1,12 @@
 -- The game of an accepted book at its beginning: the board that its mine list gives, and its lawful desk.
-use mathlib.Core.Path.{_≡_, _∙_, ap, ap₂, sym, refl, subst}
-use mathlib.Core.Bool.{Bool, true}
+use mathlib.Core.Path.{_≡_, _∙_, ap, sym, subst}
+use mathlib.Core.Bool.{true}
 use mathlib.Core.List.{List, _++_}
 use Prim.Native.Nat.{ℕ, _+_, _*_}
 use borrow.Author.Tests.{eq-eqb}
 use lib.ListN.{length, drop, replicate, length-replicate}
 use lib.IntN.{ℤ}
 use Rattle.rules.specs.declared.Book.{Book}
-use Rattle.rules.specs.Words.{pick}
 use Rattle.rules.specs.States.{freshOf}
 use Rattle.rules.specs.Board.{numbered, numberedAt, numberingRefusal}
 use Rattle.rules.specs.Lent.{bitBytes, workRoom}

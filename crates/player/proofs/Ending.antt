@@ -6,7 +6,6 @@ use native.Mathlib.Omega.{arith}
 use lib.IntN.{ℤ}
 use lib.ListN.{length}
 use Rattle.rules.specs.declared.Position.{Position}
-use Rattle.rules.specs.declared.Settings.{Settings}
 use Rattle.rules.specs.Lent.{workRoom}
 use Rattle.rules.specs.Judging.{total3bv, leftToSolve}
 use Rattle.rules.specs.Clicks.{desk}

@@ -14,7 +14,7 @@ use Rattle.rules.specs.Clicks.{Desk, desk, done}
 use Rattle.rules.specs.Calls.{plays, lastPlay, cellsIn}
 use Rattle.rules.specs.Book.{bookOf, minesOf, eventsOf}
 use Rattle.rules.specs.Printout.{gameLine, eventLines, endLines, bookBoard, bookDesk, printoutBy, printoutOf}
-use Rattle.cells.specs.Ground.{Mined, Zeros}
+use Rattle.cells.specs.Ground.{Mined}
 use Rattle.keep.specs.Kept.{LawfulAt, Follows}
 use Rattle.keep.proofs.Step.{plays-follow}
 use Rattle.book.specs.Parts.{partOf}
@@ -27,7 +27,7 @@ use Rattle.text.proofs.Putting.{put-then, put-as, put-length}
 use Rattle.text.proofs.Printed.{printout-played}
 use Rattle.player.specs.declared.Told.{Told}
 use Rattle.player.specs.Printing.{EventsFit, EventsPrinted, Begun}
-use Rattle.player.proofs.Filling.{cleared-zeros}
+use Rattle.cells.proofs.Filling.{cleared-zeros}
 use Rattle.player.proofs.Beginning.{book-lawful}
 
 -- the text of a game on a board, from a desk

@@ -1,4 +1,3 @@
-pub mod Filling
 pub mod Telling
 pub mod Ending
 pub mod Beginning

@@ -2,7 +2,7 @@
 use mathlib.Core.Path.{_≡_, _∙_, ap, sym, refl, subst}
 use mathlib.Core.Bool.{Bool, true, false}
 use mathlib.Core.List.{List}
-use Prim.Native.Nat.{ℕ, zero, suc, _+_, _*_, _/_, _<_, _≤_}
+use Prim.Native.Nat.{ℕ, zero, suc, _+_, _*_, _/_, _≤_}
 use native.Mathlib.Omega.{arith}
 use borrow.Author.Tests.{leb-true}
 use lib.Dec.{leb, ltb, eqb}
@@ -13,9 +13,9 @@ use Rattle.rules.specs.declared.Book.{Book}
 use Rattle.rules.specs.declared.Settings.{Settings}
 use Rattle.rules.specs.Grid.{sizeOk}
 use Rattle.rules.specs.Board.{mineOk}
-use Rattle.rules.specs.Calls.{modeOk, cellsIn}
+use Rattle.rules.specs.Calls.{modeOk}
 use Rattle.rules.specs.Lent.{bitBytes}
-use Rattle.rules.specs.Book.{byteAt, wordAt, orElse, reaches, maxEvents, eventsFrom, minesFrom, minesSection, settingsAt, bookOf, minesOf, eventsOf}
+use Rattle.rules.specs.Book.{byteAt, wordAt, orElse, reaches, maxEvents, eventsFrom, minesFrom, minesSection, settingsAt, bookOf}
 use Rattle.rules.specs.Printout.{printoutBy, printoutOf}
 use Rattle.book.proofs.Book.{size-cells}
 use Rattle.book.proofs.Writing.{accepted-writable}

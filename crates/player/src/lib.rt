@@ -1,9 +1,9 @@
 // A book played and printed: the settings' line, a line for each event, and the end; or the one line of a refused book.
 // The contracts cite rules/specs/Printout.antt; specs/Printing.antt has what is said of the parts.
 ghost use mathlib.Core.Path.{_≡_};
-ghost use mathlib.Core.List.{_∷_, [], _++_};
+ghost use mathlib.Core.List.{_∷_, []};
 ghost use Prim.Native.Nat.{_+_, _*_, _<_, _≤_};
-ghost use lib.ListN.{length, drop, replicate};
+ghost use lib.ListN.{length};
 ghost use Rattle.rules.specs.States.{gameNumber, mouseNumber};
 ghost use Rattle.rules.specs.Judging.{leftToSolve};
 ghost use Rattle.rules.specs.Clicks.{desk};
@@ -22,26 +22,6 @@ fn wide(x: u8) -> usize
     ensures { λ r. ⌜ r ≡ x ⌝ }
 {
     x as usize
-}
-
-fn fill(bytes: &mut [u8], v: u8)
-    ensures { λ _. ⌜ now (bytes .exit) ≡ replicate (length (now (bytes .entry))) v ⌝ }
-{
-    let mut i = 0;
-    while i < bytes.len() {
-        bytes[i] = v;
-        i += 1;
-    }
-}
-
-// The first n entries become 0.
-fn clear(work: &mut [u16], n: usize)
-    requires { ⌜ n ≤ length (now work) ⌝ }
-    ensures { λ _. ⌜ now (work .exit) ≡ replicate n 0 ++ drop n (now (work .entry)) ⌝ }
-{
-    for i in 0..n {
-        work[i] = 0;
-    }
 }
 
 // The line of a play, accepted or refused.
@@ -153,10 +133,10 @@ fn begin(s: &[u8], b: Book, mines: &mut [i8], shown: &mut [u8], bits: &mut [u8],
     let columns = b.settings.columns;
     let list = book::mines(s, b);
     boards::number_mines(rows, columns, list, &mut *mines);
-    fill(&mut *shown, 10);
-    fill(&mut *bits, 0);
+    cells::fill(&mut *shown, 10);
+    cells::fill(&mut *bits, 0);
     let cells = boards::cell_count(rows, columns);
-    clear(&mut *work, 8 * cells + 8);
+    cells::clear(&mut *work, 8 * cells + 8);
 }
 
 // An accepted book, on boards of its size.

@@ -1,11 +1,11 @@
 -- The mine board: its values and numbers, the refusals 20 to 24, and numbering from a mine list.
-use mathlib.Core.Bool.{Bool, true, false, not, _&&_, _||_}
-use mathlib.Core.List.{List, [], _∷_}
+use mathlib.Core.Bool.{Bool, true, not, _&&_, _||_}
+use mathlib.Core.List.{List}
 use Prim.Native.Nat.{ℕ, zero, suc, _+_, _*_, _/_, _%_}
 use lib.Dec.{ltb, leb, eqb}
 use lib.ListN.{length, getD}
 use lib.IntN.{ℤ, pos, negsuc}
-use Rattle.rules.specs.Words.{pick, unless, count, every, inOrder}
+use Rattle.rules.specs.Words.{pick, unless, every, inOrder}
 use Rattle.rules.specs.Grid.{sizeOk, cellOf, around}
 
 -- what a cell shows once it is open: its number, or 15 for a mine

@@ -1,7 +1,7 @@
 -- The entry points: for each call, its refusals in their order, and its one outcome for every input.
-use mathlib.Core.Bool.{Bool, true, false, not, _&&_, _||_}
+use mathlib.Core.Bool.{Bool, true, _&&_, _||_}
 use mathlib.Core.List.{List, [], _∷_}
-use Prim.Native.Nat.{ℕ, zero, suc, _+_, _*_, _%_}
+use Prim.Native.Nat.{ℕ, _+_, _*_, _%_}
 use lib.Dec.{ltb, leb, eqb}
 use lib.ListN.{length, replicate}
 use lib.IntN.{ℤ}
@@ -12,7 +12,7 @@ use Rattle.rules.specs.declared.Value.{Value}
 use Rattle.rules.specs.declared.GameState.the-variants.{Loss}
 use Rattle.rules.specs.Words.{pick, unless}
 use Rattle.rules.specs.States.{freshOf, withGame}
-use Rattle.rules.specs.Board.{boardRefusal, boardCheck, numbered, numberingRefusal}
+use Rattle.rules.specs.Board.{boardRefusal, numbered, numberingRefusal}
 use Rattle.rules.specs.Lent.{bitBytes, workRoom, workAfter}
 use Rattle.rules.specs.Judging.{total3bv, leftToSolve}
 use Rattle.rules.specs.Clicks.{Desk, Play, desk, done}

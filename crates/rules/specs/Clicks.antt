@@ -1,14 +1,14 @@
 -- The clicks: left, right and chord, each as what it leaves of a desk, with its answer. The automatic passes come after, in Passes.
-use mathlib.Core.Bool.{Bool, true, false, not, _&&_, _||_}
+use mathlib.Core.Bool.{Bool, not, _&&_, _||_}
 use mathlib.Core.List.{List, [], _∷_}
 use Prim.Native.Nat.{ℕ, _+_, _-_, _*_}
-use lib.Dec.{ltb, leb, eqb}
+use lib.Dec.{ltb, eqb}
 use lib.ListN.{length, getD, set}
 use lib.IntN.{ℤ}
 use Rattle.rules.specs.declared.Position.{Position}
 use Rattle.rules.specs.declared.GameState.the-variants.{Win, Loss}
 use Rattle.rules.specs.Words.{pick, bit, every}
-use Rattle.rules.specs.States.{withGame, withLeft, withRight, withDouble, withLce, withDce, withFlag, withRce, withSolvedLeft, withSolvedChord}
+use Rattle.rules.specs.States.{withGame, withLeft, withRight, withLce, withFlag, withRce, withSolvedLeft, withSolvedChord}
 use Rattle.rules.specs.Grid.{around, pushed}
 use Rattle.rules.specs.Board.{faceAt, mineAt, loneAt}
 use Rattle.rules.specs.Lent.{bitAt, withBit}

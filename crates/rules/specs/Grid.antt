@@ -1,6 +1,6 @@
 -- Sizes, cells, and the neighbours of a cell in row order.
 use mathlib.Core.Bool.{Bool, true, false, _&&_}
-use mathlib.Core.List.{List, [], _∷_}
+use mathlib.Core.List.{List, _∷_}
 use Prim.Native.Nat.{ℕ, zero, suc, _+_, _-_, _*_, _/_, _%_}
 use lib.Dec.{leb}
 use Rattle.rules.specs.Words.{pick, count}

@@ -5,8 +5,6 @@ use Prim.Native.Nat.{ℕ, _+_, _*_}
 use lib.Dec.{leb, eqb}
 use lib.ListN.{length, getD}
 use lib.IntN.{ℤ}
-use Rattle.rules.specs.declared.Position.{Position}
-use Rattle.rules.specs.declared.MouseState.{MouseState}
 use Rattle.rules.specs.declared.GameState.{GameState}
 use Rattle.rules.specs.declared.GameState.the-variants.{Ready, Playing, Win, Loss, PreFlaging}
 use Rattle.rules.specs.Words.{pick, count, every}

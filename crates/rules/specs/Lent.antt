@@ -1,8 +1,8 @@
 -- What is lent: the flagged-before bits, and the work.
-use mathlib.Core.Bool.{Bool, true, false, _&&_}
+use mathlib.Core.Bool.{Bool}
 use mathlib.Core.List.{List, _++_}
 use Prim.Native.Nat.{ℕ, _+_, _*_, _/_, _%_, _^_}
-use lib.Dec.{leb, eqb}
+use lib.Dec.{eqb}
 use lib.Bits.{bitOr}
 use lib.ListN.{getD, set, drop, replicate}
 

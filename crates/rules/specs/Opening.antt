@@ -1,5 +1,5 @@
 -- Opening (`refresh_board`): given cells open; a 0 opens its neighbours showing 10, never 11 or 17. If a mine is hit, each flag on a safe cell becomes 14.
-use mathlib.Core.Bool.{Bool, true, false, not, _&&_, _||_}
+use mathlib.Core.Bool.{Bool, false, not, _&&_, _||_}
 use mathlib.Core.List.{List, [], _∷_}
 use Prim.Native.Nat.{ℕ, zero, suc, _+_, _*_}
 use lib.Dec.{eqb}

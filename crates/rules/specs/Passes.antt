@@ -1,7 +1,7 @@
 -- The automatic passes, only while Playing; and the right click and the chord by hand, which they follow.
 use mathlib.Core.Bool.{Bool, true, false, _&&_, _||_}
 use mathlib.Core.List.{List, [], _∷_}
-use Prim.Native.Nat.{ℕ, zero, suc, _+_, _*_}
+use Prim.Native.Nat.{ℕ, zero, suc, _+_}
 use lib.Dec.{leb, eqb}
 use lib.ListN.{getD, set}
 use lib.IntN.{ℤ, pos, negsuc, _-ℤ_}

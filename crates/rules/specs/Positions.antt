@@ -1,13 +1,13 @@
 -- The positions that document 01 marks P, and two beside them, as one table and one theorem that the checker computes over the definitions.
 -- Open is lc, lr; flag rc, rr. Each row is a game from its fresh start: settings, mine list, events, and all that stands at its end.
 use mathlib.Core.Path.{_≡_, refl}
-use mathlib.Core.Bool.{Bool, true, false, not, _&&_, _||_}
+use mathlib.Core.Bool.{Bool, true, false, _&&_}
 use mathlib.Core.List.{List, [], _∷_, _++_}
-use Prim.Native.Nat.{ℕ, _*_}
+use Prim.Native.Nat.{ℕ}
 use lib.Dec.{eqb}
-use lib.ListN.{length, replicate}
+use lib.ListN.{replicate}
 use Rattle.rules.specs.declared.Settings.{Settings}
-use Rattle.rules.specs.Words.{pick, unless, count, every, inOrder, stackOf, below, rounds}
+use Rattle.rules.specs.Words.{pick, count, every, inOrder, stackOf, below, rounds}
 use Rattle.rules.specs.States.{gameNumber, mouseNumber, mouseAt, freshOf}
 use Rattle.rules.specs.Grid.{sizeOk, ninth, cellBefore, neighbour, around, pushed}
 use Rattle.rules.specs.Board.{zeroAt, loneAt, mineOk, listedMine, numberedAt, numbered, numberingRefusal}

@@ -4,7 +4,7 @@ use mathlib.Core.Path.{_≡_, refl, ap}
 use borrow.Author.Needs.{needs}
 use native.Mathlib.Omega.{arith}
 use Rattle.cells.proofs.Words.{is-bit}
-use Rattle.rules.specs.Words.{bit, count}
+use Rattle.rules.specs.Words.{count}
 use Rattle.rules.specs.Grid.{cellOf, neighbour}
 use Rattle.cells.specs.Ground.{faceIs}
 use Rattle.cells.proofs.Grid.{around-turn, around-done}

@@ -1,5 +1,4 @@
 -- `events::pre_flag` meets its contract.
-use mathlib.Core.Path.{refl}
 use borrow.Author.Needs.{needs}
 use Rattle.events.proofs.Plays.{plays-by}
 use Rattle.events.proofs.Cases.{pre-flag-right}

@@ -1,5 +1,5 @@
 -- `events::ready_rc` meets its contract.
-use mathlib.Core.Path.{_∙_, sym, refl}
+use mathlib.Core.Path.{_∙_, sym}
 use borrow.Author.Needs.{needs}
 use Rattle.events.proofs.Plays.{alike-set, plays-by, plays-here, alike-at}
 use Rattle.events.proofs.Cases.{ready-rc-starts, ready-rc-moved}

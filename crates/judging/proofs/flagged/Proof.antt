@@ -1,5 +1,5 @@
 -- `judging::flagged`: the test of the code is that of the contract; past the end of the shown board nothing is 11.
-use mathlib.Core.Path.{sym, _∙_}
+use mathlib.Core.Path.{sym}
 use borrow.Author.Tests.{eq-eqb, ne-eqb}
 use Rattle.judging.proofs.Marks.{off-ne}
 use borrow.Author.Needs.{needs}

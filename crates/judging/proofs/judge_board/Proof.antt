@@ -1,7 +1,7 @@
 -- `judging::judge_board`: the invariant is the tally of the cells below i.
 use borrow.Author.Needs.{needs}
-use mathlib.Core.Path.{_≡_, refl, sym, _∙_}
-use Prim.Native.Nat.{ℕ, _+_, _≤_, _<_, _-_, _*_}
+use mathlib.Core.Path.{_≡_}
+use Prim.Native.Nat.{_≤_, _-_, _*_}
 use native.Mathlib.Omega.{arith}
 use Rattle.rules.specs.Words.{below}
 use Rattle.judging.specs.Parts.{Tallied}

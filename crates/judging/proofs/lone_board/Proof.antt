@@ -1,7 +1,6 @@
 -- `judging::lone_board`: the invariant is the lone numbers of the rows before the row.
-use borrow.Author.Needs.{needs}
 use mathlib.Core.Path.{_≡_}
-use Prim.Native.Nat.{ℕ, _+_, _≤_, _<_, _-_, _*_}
+use Prim.Native.Nat.{_+_, _≤_, _-_, _*_}
 use native.Mathlib.Omega.{arith}
 use Rattle.judging.specs.Parts.{LoneRow}
 use Rattle.judging.proofs.Lones.{board-none, board-more, board-few}

@@ -1,7 +1,7 @@
 -- `judging::lone_cells`: the invariant is the lone numbers of the first i cells.
 use borrow.Author.Needs.{needs}
 use mathlib.Core.Path.{_≡_}
-use Prim.Native.Nat.{ℕ, _+_, _≤_, _<_, _-_, _*_}
+use Prim.Native.Nat.{_≤_, _-_}
 use native.Mathlib.Omega.{arith}
 use Rattle.rules.specs.Words.{stackOf}
 use Rattle.rules.specs.Judging.{lones}

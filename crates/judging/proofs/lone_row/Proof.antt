@@ -1,7 +1,7 @@
 -- `judging::lone_row`: the invariant is the lone numbers of the row before the column.
 use borrow.Author.Needs.{needs}
 use mathlib.Core.Path.{_≡_}
-use Prim.Native.Nat.{ℕ, _+_, _≤_, _<_, _-_, _*_}
+use Prim.Native.Nat.{_≤_, _-_, _*_}
 use native.Mathlib.Omega.{arith}
 use Rattle.judging.specs.Parts.{LoneRow}
 use Rattle.judging.proofs.Lones.{row-none, row-more}

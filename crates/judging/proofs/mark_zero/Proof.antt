@@ -1,5 +1,5 @@
 -- `judging::mark_zero`: a store among the marks, then the pushes.
-use mathlib.Core.Path.{_≡_, sym, _∙_}
+use mathlib.Core.Path.{_∙_}
 use lib.ListN.{length-set}
 use borrow.Author.Needs.{needs}
 use Rattle.judging.proofs.mark_zero.Statement.{statement}

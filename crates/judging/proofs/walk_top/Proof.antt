@@ -2,8 +2,8 @@
 use borrow.Author.Tests.{not-true, not-false}
 use lib.ListN.{getD}
 use mathlib.Core.Path.{_≡_, sym, _∙_}
-use mathlib.Core.Bool.{true, false}
-use Prim.Native.Nat.{ℕ, _≤_, _<_, _-_, _*_}
+use mathlib.Core.Bool.{true}
+use Prim.Native.Nat.{_-_, _*_}
 use native.Mathlib.Omega.{arith}
 use Rattle.rules.specs.Judging.{freeAt}
 use Rattle.judging.specs.Parts.{marksOf}

@@ -1,12 +1,12 @@
--- `board::clear` meets its contract: a fill from the front.
+-- `cells::clear` meets its contract: a fill from the front.
 use mathlib.Core.Path.{_≡_, refl, ap, _∙_}
 use mathlib.Core.List.{_++_}
 use Prim.Native.Nat.{_≤_, _-_}
 use native.Mathlib.Omega.{arith}
 use borrow.Author.Fill.{fill-none, fill-more}
 use lib.ListN.{length, replicate, drop, length-set, set}
-use Rattle.board.proofs.clear.Statement.{statement}
-use Rattle.board.proofs.clear.Tie as tie
+use Rattle.cells.proofs.clear.Statement.{statement}
+use Rattle.cells.proofs.clear.Tie as tie
 
 abbrev Inv-loop : tie.InvT-loop
 Inv-loop work₀ n i₀ work i = (i ≤ n) × (work ≡ replicate i 0 ++ drop i work₀) × (length work ≡ length work₀)

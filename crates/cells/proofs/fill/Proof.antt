@@ -1,13 +1,13 @@
--- `player::fill` meets its contract: a fill from the front.
+-- `cells::fill` meets its contract: a fill from the front.
 use mathlib.Core.Path.{_≡_, refl, ap, _∙_}
 use mathlib.Core.List.{_++_}
 use Prim.Native.Nat.{_≤_, _-_}
 use native.Mathlib.Omega.{arith}
 use borrow.Author.Fill.{fill-none, fill-more}
 use lib.ListN.{length, replicate, drop, length-set, set}
-use Rattle.player.proofs.Filling.{fill-whole}
-use Rattle.player.proofs.fill.Statement.{statement}
-use Rattle.player.proofs.fill.Tie as tie
+use Rattle.cells.proofs.Filling.{fill-whole}
+use Rattle.cells.proofs.fill.Statement.{statement}
+use Rattle.cells.proofs.fill.Tie as tie
 
 abbrev Inv-loop : tie.InvT-loop
 Inv-loop bytes₀ v i₀ bytes i = (i ≤ length bytes₀) × (bytes ≡ replicate i v ++ drop i bytes₀) × (length bytes ≡ length bytes₀)

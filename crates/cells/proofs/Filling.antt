@@ -1,11 +1,11 @@
 -- Lists filled from the front: a whole list, and work cleared.
 use mathlib.Core.Path.{_≡_, ap, _∙_}
 use mathlib.Core.List.{List, _++_, append-nil}
-use Prim.Native.Nat.{ℕ, _<_, _≤_}
+use Prim.Native.Nat.{ℕ, _≤_}
 use native.Mathlib.Omega.{arith}
 use lib.ListN.{length, drop, replicate, List·getD-append, length-replicate, getD-replicate}
 use lib.Seq.{drop-length}
 use Rattle.cells.specs.Ground.{Zeros}
 
 -- a fill that has passed every entry
 pub fill-whole : (l : List ℕ) (v i : ℕ) (l′ : List ℕ) → i ≤ length l → length l ≤ i → l′ ≡ replicate i v ++ drop i l → l′ ≡ replicate (length l) v
