@@ -13,6 +13,47 @@ extern "C" {
         columns: usize,
         cell: u16,
     ) -> bool;
+
+    fn bench_flow(
+        rows: u8,
+        columns: u8,
+        mode: u8,
+        question: bool,
+        events: *const u8,
+        events_len: usize,
+        mines: *const i8,
+        mines_len: usize,
+        shown: *mut u8,
+        shown_len: usize,
+        bits: *mut u8,
+        bits_len: usize,
+        work: *mut u16,
+        work_len: usize,
+        counts: *mut u32,
+        counts_len: usize,
+    ) -> u16;
+
+    fn bench_step(
+        rows: u8,
+        columns: u8,
+        mode: u8,
+        question: bool,
+        events: *const u8,
+        events_len: usize,
+        code: u8,
+        row: u8,
+        column: u8,
+        mines: *const i8,
+        mines_len: usize,
+        shown: *mut u8,
+        shown_len: usize,
+        bits: *mut u8,
+        bits_len: usize,
+        work: *mut u16,
+        work_len: usize,
+        counts: *mut u32,
+        counts_len: usize,
+    ) -> u16;
 }
 
 /// Opens one cell; says whether a mine was hit. The work is all 0 before and after.
@@ -31,6 +72,77 @@ pub fn refresh_board(board: &Board, shown: &mut [u8], work: &mut [u16], cell: us
             board.rows,
             board.columns,
             cell as u16,
+        )
+    }
+}
+
+/// What is lent to our functions for one game, with the number and the counts that come back.
+pub struct Lent {
+    pub shown: Vec<u8>,
+    pub bits: Vec<u8>,
+    pub work: Vec<u16>,
+    pub counts: [u32; 9],
+    pub number: u16,
+}
+
+impl Lent {
+    pub fn new(board: &Board) -> Lent {
+        let cells = board.cells();
+        let (shown, bits, work) = (vec![0; cells], vec![0; cells.div_ceil(8)], vec![0; 8 * cells + 8]);
+        Lent { shown, bits, work, counts: [0; 9], number: 0 }
+    }
+}
+
+/// A setup, and all the events by `step_flow`.
+pub fn flow(board: &Board, mode: u8, events: &[u8], lent: &mut Lent) -> u16 {
+    // SAFETY: the slices are whole, and the contract has no `requires`.
+    unsafe {
+        bench_flow(
+            board.rows as u8,
+            board.columns as u8,
+            mode,
+            false,
+            events.as_ptr(),
+            events.len(),
+            board.ours.as_ptr(),
+            board.ours.len(),
+            lent.shown.as_mut_ptr(),
+            lent.shown.len(),
+            lent.bits.as_mut_ptr(),
+            lent.bits.len(),
+            lent.work.as_mut_ptr(),
+            lent.work.len(),
+            lent.counts.as_mut_ptr(),
+            lent.counts.len(),
+        )
+    }
+}
+
+/// The same, but the last event by `step`; gives its answer.
+pub fn step(board: &Board, mode: u8, events: &[u8], lent: &mut Lent) -> u16 {
+    let (before, last) = events.split_at(events.len() - 3);
+    // SAFETY: the slices are whole, and the contract has no `requires`.
+    unsafe {
+        bench_step(
+            board.rows as u8,
+            board.columns as u8,
+            mode,
+            false,
+            before.as_ptr(),
+            before.len(),
+            last[0],
+            last[1],
+            last[2],
+            board.ours.as_ptr(),
+            board.ours.len(),
+            lent.shown.as_mut_ptr(),
+            lent.shown.len(),
+            lent.bits.as_mut_ptr(),
+            lent.bits.len(),
+            lent.work.as_mut_ptr(),
+            lent.work.len(),
+            lent.counts.as_mut_ptr(),
+            lent.counts.len(),
         )
     }
 }

@@ -1,8 +1,11 @@
 // The rows of the bench, each played by the Rust and by the library in this one process; bench/run builds and reads it.
 mod boards;
+mod flow;
+mod games;
 mod library;
 mod measure;
 mod opening;
+mod play;
 
 use measure::Way;
 
@@ -16,4 +19,5 @@ fn main() {
         }
     };
     opening::rows(way);
+    games::rows(way);
 }

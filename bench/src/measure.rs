@@ -7,9 +7,10 @@ extern "C" {
     fn counter_stop(name: *const c_char);
 }
 
-/// One side of a row: makes its boards anew, and then plays on them. Only the play is measured.
+/// One side of a row: makes its boards anew, and then plays on them. Only the play is measured, less what `base` takes on new boards.
 pub trait Side {
     fn prepare(&mut self);
+    fn base(&mut self) {}
     fn play(&mut self);
 }
 
@@ -28,16 +29,22 @@ pub fn row(way: Way, name: &str, mut sides: [&mut dyn Side; 2]) {
     match way {
         Way::Instructions => {
             for (side, word) in sides.iter_mut().zip(["theirs", "ours"]) {
-                let label = CString::new(format!("{word} {name}")).unwrap();
                 side.prepare();
-                // SAFETY: the two calls only speak to callgrind; the label ends in 0 and lives on.
-                unsafe { counter_start() };
-                side.play();
-                unsafe { counter_stop(label.as_ptr()) };
+                counted(&format!("{word}-base {name}"), || side.base());
+                side.prepare();
+                counted(&format!("{word} {name}"), || side.play());
             }
         }
         Way::Time => println!("{name}\t{}", clock(&mut sides)),
     }
+}
+
+fn counted(label: &str, run: impl FnOnce()) {
+    let label = CString::new(label).unwrap();
+    // SAFETY: the two calls only speak to callgrind; the label ends in 0 and lives on.
+    unsafe { counter_start() };
+    run();
+    unsafe { counter_stop(label.as_ptr()) };
 }
 
 /// Both medians in nanoseconds, then the tenth and the ninetieth of a hundred ratios of neighbouring plays.
@@ -48,14 +55,20 @@ fn clock(sides: &mut [&mut dyn Side; 2]) -> String {
     while ratios.len() < 25 || Instant::now() < end {
         for (side, times) in sides.iter_mut().zip(&mut times) {
             side.prepare();
-            let start = Instant::now();
-            side.play();
-            times.push(start.elapsed().as_nanos() as f64);
+            let base = timed(|| side.base());
+            side.prepare();
+            times.push(timed(|| side.play()) - base);
         }
         ratios.push(times[1][ratios.len()] / times[0][ratios.len()]);
     }
     let [theirs, ours] = &mut times;
     format!("{}\t{}\t{:.3}\t{:.3}", share(theirs, 50), share(ours, 50), share(&mut ratios, 10), share(&mut ratios, 90))
+}
+
+fn timed(run: impl FnOnce()) -> f64 {
+    let start = Instant::now();
+    run();
+    start.elapsed().as_nanos() as f64
 }
 
 fn share(values: &mut [f64], hundredth: usize) -> f64 {

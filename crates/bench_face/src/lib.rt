@@ -1,9 +1,12 @@
 // What the bench calls: inner functions under plain names, numbers and slices only.
 ghost use mathlib.Core.List.{[], _∷_};
-ghost use Prim.Native.Nat.{_*_, _<_};
+ghost use Prim.Native.Nat.{ℕ, _*_, _<_};
 ghost use Rattle.rules.specs.Lent.{workRoom};
 ghost use Rattle.cells.specs.Ground.{Fitting, Zeros};
 ghost use Rattle.opening.specs.Parts.{Refreshed};
+use rules::Answer;
+use rules::Position;
+use rules::Settings;
 
 // `opening::refresh_board` for one cell.
 #[no_mangle]
@@ -22,4 +25,108 @@ pub extern "C" fn bench_refresh_board(
 {
     let at = [cell, 0, 0, 0, 0, 0, 0, 0];
     opening::refresh_board(mines, shown, work, rows, columns, rules::Cells { at, n: 1 })
+}
+
+// A position's counts, in the printout's order, where there is room.
+fn tell(p: Position, counts: &mut [u32]) {
+    if counts.len() < 9 {
+        return;
+    }
+    let all = [
+        p.counts.left,
+        p.counts.right,
+        p.counts.double,
+        p.counts.lce,
+        p.secrets.rce,
+        p.counts.dce,
+        p.counts.flag,
+        p.secrets.solved_left,
+        p.secrets.solved_chord,
+    ];
+    for i in 0..9 {
+        counts[i] = all[i];
+    }
+}
+
+// `board::setup`, and `board::step_flow` from there.
+fn flow(
+    settings: Settings,
+    events: &[u8],
+    mines: &[i8],
+    shown: &mut [u8],
+    bits: &mut [u8],
+    work: &mut [u16],
+) -> Answer {
+    let a = board::setup(settings, mines, &mut *shown, &mut *bits);
+    if a.number != 0 {
+        return a;
+    }
+    let p = a.position;
+    board::step_flow(p, events, mines, &mut *shown, &mut *bits, &mut *work)
+}
+
+// A fresh game and a row of events.
+#[no_mangle]
+pub extern "C" fn bench_flow(
+    rows: u8,
+    columns: u8,
+    mode: u8,
+    question: bool,
+    events: &[u8],
+    mines: &[i8],
+    shown: &mut [u8],
+    bits: &mut [u8],
+    work: &mut [u16],
+    counts: &mut [u32],
+) -> u16 {
+    let settings = Settings {
+        rows,
+        columns,
+        mode,
+        question,
+    };
+    let a = flow(settings, events, mines, &mut *shown, &mut *bits, &mut *work);
+    let p = a.position;
+    tell(p, &mut *counts);
+    a.number
+}
+
+// The same, and one event more by `board::step`, which tests all.
+#[no_mangle]
+pub extern "C" fn bench_step(
+    rows: u8,
+    columns: u8,
+    mode: u8,
+    question: bool,
+    events: &[u8],
+    code: u8,
+    row: u8,
+    column: u8,
+    mines: &[i8],
+    shown: &mut [u8],
+    bits: &mut [u8],
+    work: &mut [u16],
+    counts: &mut [u32],
+) -> u16 {
+    let settings = Settings {
+        rows,
+        columns,
+        mode,
+        question,
+    };
+    let a = flow(settings, events, mines, &mut *shown, &mut *bits, &mut *work);
+    let p = a.position;
+    let o = board::step(
+        p,
+        code,
+        row,
+        column,
+        mines,
+        &mut *shown,
+        &mut *bits,
+        &mut *work,
+    );
+    let q = o.position;
+    tell(q, &mut *counts);
+    o.number
 }

@@ -16,10 +16,11 @@ use Rattle.rules.specs.declared.GameState.the-variants.{Ready, Playing, PreFlag
 use Rattle.rules.specs.declared.MouseState.the-variants.{UpDownNotFlag}
 use Rattle.rules.specs.States.{mouseNumber, withLeft, withRight, withGame, withMouse, withMiddle, withPreflags}
 use Rattle.rules.specs.Grid.{cellOf}
-use Rattle.rules.specs.Clicks.{desk, done, leftClick}
+use Rattle.rules.specs.Clicks.{Desk, desk, done, leftClick}
 use Rattle.rules.specs.Passes.{rightClick, chordingClick}
 use Rattle.rules.specs.Mouse.{moved}
 use Rattle.rules.specs.Step.{seenAt, leftAt, rightAt, chordAt, chordFrom, playLc, playLr, playRc, playRr, playing, preFlag, readyLc, readyRc, cleared, clearedIf, backIf, preLeft, preLr, lastTakenBack, preCell, preRight, backToReady, preRc, onCell, move}
+use Rattle.events.specs.Able.{button}
 
 module _ (B : List ℤ) (x : Pointer) (p q : Position) (shown bits : List ℕ) where
   pub left-at-cell : (r c i : ℕ) → x ≡ Cell r c → i ≡ cellOf (p .settings .columns) r c → leftAt B x (desk p shown bits) ≡ leftClick B i (desk p shown bits)
@@ -205,3 +206,17 @@ module _ (B : List ℤ) (i : ℕ) (p q : Position) (shown bits : List ℕ) where
         → desk q shown′ bits″ ≡ cleared (desk (o .position) shown′ bits′)
         → done (o .answer) (desk q shown′ bits″) ≡ clearedIf (eqb (p .preflags) 0) (rightClick B i (desk p shown bits))
     pre-question-clears bits″ e h k = rw (eq-eqb (p .preflags) 0 e, ← h) (ap (done (o .answer)) k)
+
+-- a button event by its code
+module _ (B : List ℤ) (x : Pointer) (code : ℕ) (d : Desk) where
+  pub button-lc : code ≡ 0 → button B code x d ≡ playLc x d
+  button-lc a = rw (eq-eqb code 0 a)
+
+  pub button-lr : (code ≡ 0 → ⊥) → code ≡ 1 → button B code x d ≡ playLr B x d
+  button-lr a b = rw (ne-eqb code 0 a, eq-eqb code 1 b)
+
+  pub button-rc : (code ≡ 0 → ⊥) → (code ≡ 1 → ⊥) → code ≡ 2 → button B code x d ≡ playRc B x d
+  button-rc a b e = rw (ne-eqb code 0 a, ne-eqb code 1 b, eq-eqb code 2 e)
+
+  pub button-rr : (code ≡ 0 → ⊥) → (code ≡ 1 → ⊥) → (code ≡ 2 → ⊥) → button B code x d ≡ playRr B x d
+  button-rr a b e = rw (ne-eqb code 0 a, ne-eqb code 1 b, ne-eqb code 2 e)

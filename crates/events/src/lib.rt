@@ -14,7 +14,7 @@ ghost use Rattle.rules.specs.Mouse.{moved};
 ghost use Rattle.rules.specs.Step.{onCell, move, leftAt, rightAt, chordAt, chordFrom, playLc, playLr, playRc, playRr, playing as playingOf, preFlag, readyLc, readyRc, ready as readyOf, cleared, clearedIf, backIf, preLeft, preLr, lastTakenBack, preCell, preRight, backToReady, preRc, preFlaging as preFlagingOf, byGame};
 ghost use Rattle.clicks.specs.Room.{Laid, LeftRoom, Acts};
 ghost use Rattle.keep.specs.Kept.{Inside, InsideOf};
-ghost use Rattle.events.specs.Able.{AbleAt, Plays};
+ghost use Rattle.events.specs.Able.{AbleAt, Plays, button};
 use rules::Event;
 use rules::GameState;
 use rules::MouseState;
@@ -262,6 +262,33 @@ fn play_mr(
 {
     let q = p.with_middle(false);
     chord_at(q, x, mines, &mut *shown, &mut *bits, &mut *work)
+}
+
+// A button event by its code: lc, lr, rc or rr.
+pub fn play_button(
+    p: Position,
+    code: u8,
+    x: Pointer,
+    mines: &[i8],
+    shown: &mut [u8],
+    bits: &mut [u8],
+    work: &mut [u16],
+) -> Played
+    requires { ⌜ AbleAt (now mines) p (now shown) (now bits) (now work) ⌝ }
+    requires { ⌜ Inside (p .settings) x ⌝ }
+    requires { ⌜ (mouseNumber (p .mouse) ≡ 5 → 1 ≤ p .counts .right) ⌝ }
+    ensures { λ r. ⌜ Plays (button (now (mines .entry)) code x) p (now (shown .entry)) (now (bits .entry)) (now (work .entry)) r (now (shown .exit)) (now (bits .exit)) (now (work .exit)) ⌝ }
+{
+    if code == 0 {
+        return play_lc(p, x);
+    }
+    if code == 1 {
+        return play_lr(p, x, mines, &mut *shown, &mut *bits, &mut *work);
+    }
+    if code == 2 {
+        return play_rc(p, x, mines, &mut *shown, &mut *bits, &mut *work);
+    }
+    play_rr(p, x, mines, &mut *shown, &mut *bits, &mut *work)
 }
 
 // An event that answers 0 and changes the position alone.

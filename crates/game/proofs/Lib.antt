@@ -1,3 +1,4 @@
 pub mod Steps
 pub mod Flows
+pub mod Runs
 pub mod Answers

@@ -1,11 +1,12 @@
 -- A step of a lawful game: what playing an event asks, from the lawful position, and one equation for each way a step ends.
 use mathlib.Core.Path.{_≡_, _∙_, sym, ap, refl}
-use mathlib.Core.Bool.{Bool, true}
+use mathlib.Core.Bool.{Bool, true, _&&_, false≢true}
 use mathlib.Core.List.{List}
-use Prim.Native.Nat.{ℕ, _+_, _<_, _≤_}
+use Prim.Native.Nat.{ℕ, zero, suc, _+_, _<_, _≤_}
 use native.Mathlib.Omega.{arith}
 use native.Mathlib.Decide.{decLt}
-use borrow.Author.Tests.{eq-eqb, ne-eqb, lt-ltb, le-ltb}
+use borrow.Author.Tests.{eq-eqb, ne-eqb, lt-ltb, le-ltb, ltb-true}
+use lib.Dec.{ltb}
 use lib.ListN.{length, getD, List·getD-eq-default}
 use lib.IntN.{ℤ}
 use Rattle.rules.specs.declared.Position.{Position}
@@ -19,17 +20,17 @@ use Rattle.rules.specs.declared.GameState.{GameState}
 use Rattle.rules.specs.declared.GameState.the-variants.{Ready, Playing, Win, Loss, PreFlaging}
 use Rattle.rules.specs.declared.MouseState.{MouseState}
 use Rattle.rules.specs.declared.MouseState.the-variants.{UpUp, UpDown, UpDownNotFlag, DownUp, Chording, ChordingNotFlag, DownUpAfterChording}
-use Rattle.rules.specs.States.{mouseNumber, isNotFlag, withMiddle, withEvents}
-use Rattle.rules.specs.Clicks.{Desk, Play, desk, done}
+use Rattle.rules.specs.States.{mouseNumber, isNotFlag, isPlaying, withMiddle, withEvents}
+use Rattle.rules.specs.Clicks.{Desk, Play, desk, done, on}
 use Rattle.rules.specs.Mouse.{resolved, flipped}
 use Rattle.rules.specs.Step.{eventRefusal, badPreFlag, errsPreFlaging, errsPlaying, ready, preFlaging, playing, eventOf, plainOf, byGame, pointerOf, refusalAt, playAt, stepAt, stepBy, stepOn, mouse}
 use Rattle.rules.specs.Lawful.{countShown, shows}
-use Rattle.cells.proofs.Words.{count-le}
+use Rattle.cells.proofs.Words.{count-le, and-left, and-right}
 use Rattle.keep.specs.Kept.{LawfulAt, Inside, InsideOf}
 use Rattle.keep.proofs.Reshow.{flag-has}
 use Rattle.keep.proofs.Room.{sound-small, preflags-has}
 use Rattle.keep.proofs.Step.{event-inside}
-use Rattle.events.specs.Able.{AbleAt}
+use Rattle.events.specs.Able.{AbleAt, button}
 use Rattle.game.specs.Core.{Blank}
 
 -- an 11 is shown on the board only
@@ -126,6 +127,10 @@ module _ (B : List ℤ) (code r c : ℕ) (p : Position) (shown bits : List ℕ) 
   unfolding stepOn stepBy stepAt
   step-played x n h k z = rw (← e, h, ← k, eq-eqb n 0 z)
 
+  pub step-full : (x : Pointer) → w ≡ At x → 65535 ≤ p .events → done 31 (desk p shown bits) ≡ stepOn B code r c (desk p shown bits)
+  unfolding refusalAt
+  step-full x h l = step-refused x 31 h (rw (le-ltb (p .events) 65535 l) refl) (λ z. absurd (omega arith))
+
 -- ---- a move ----------------------------------------------------------------------------------------------------------------------------
 
 -- in every game state a move is accepted, answers 0 and changes nothing
@@ -146,10 +151,6 @@ move-idle Win B x d = refl
 move-idle Loss B x d = refl
 
 module _ (B : List ℤ) (r c : ℕ) (p : Position) (shown bits : List ℕ) (w : Decoded) (e : w ≡ pointerOf (p .settings) r c) (x : Pointer) (h : w ≡ At x) where
-  full : 65535 ≤ p .events → 31 ≡ refusalAt 4 x (desk p shown bits)
-  unfolding refusalAt
-  full l = rw (le-ltb (p .events) 65535 l) refl
-
   heard : p .events < 65535 → 0 ≡ refusalAt 4 x (desk p shown bits)
   unfolding refusalAt plainOf eventOf resolved
   heard l = rw (lt-ltb (p .events) 65535 l) (sym (move-heard (p .game) x (desk p shown bits)))
@@ -158,8 +159,57 @@ module _ (B : List ℤ) (r c : ℕ) (p : Position) (shown bits : List ℕ) (w : 
   unfolding playAt plainOf eventOf resolved flipped
   counts q k = rw (k, move-idle (p .game) B x (desk p shown bits)) refl
 
-  pub move-full : 65535 ≤ p .events → done 31 (desk p shown bits) ≡ stepOn B 4 r c (desk p shown bits)
-  move-full l = step-refused B 4 r c p shown bits w e x 31 h (full l) (λ z. absurd (omega arith))
-
   pub move-counts : (q : Position) → p .events < 65535 → q ≡ withEvents p (p .events + 1) → done 0 (desk q shown bits) ≡ stepOn B 4 r c (desk p shown bits)
   move-counts q l k = counts q k ∙ sym (step-played B 4 r c p shown bits w e x 0 h (heard l) refl)
+
+-- a move by its code
+pub step-moved : (B : List ℤ) (code r c : ℕ) (p : Position) (shown bits : List ℕ) (w : Decoded) → w ≡ pointerOf (p .settings) r c → (x : Pointer) → w ≡ At x → code ≡ 4
+    → p .events < 65535 → (o : Played) → o ≡ record { answer = 0; position = withEvents p (p .events + 1) } → done (o .answer) (desk (o .position) shown bits) ≡ stepOn B code r c (desk p shown bits)
+step-moved B code r c p shown bits w e x h k l o q = rw (k, q) (move-counts B r c p shown bits w e x h (withEvents p (p .events + 1)) l refl)
+
+-- ---- a button event while Playing ------------------------------------------------------------------------------------------------------
+
+-- it is not resolved and not refused
+button-heard : (code : ℕ) (x : Pointer) (d : Desk) → code < 4 → eventRefusal Playing (plainOf code x d) d ≡ 0
+unfolding eventRefusal plainOf eventOf resolved errsPlaying
+button-heard zero x d h = refl
+button-heard (suc zero) x d h = refl
+button-heard (suc (suc zero)) x d h = refl
+button-heard (suc (suc (suc zero))) x d h = refl
+button-heard (suc (suc (suc (suc n)))) x d h = absurd (omega arith)
+
+button-plain : (B : List ℤ) (code : ℕ) (x : Pointer) (d : Desk) → code < 4
+    → byGame Playing B (plainOf code x d) (on d (withMiddle (d .position) (flipped code (d .position .middle)))) ≡ button B code x d
+unfolding byGame plainOf eventOf resolved flipped playing
+button-plain B zero x d h = refl
+button-plain B (suc zero) x d h = refl
+button-plain B (suc (suc zero)) x d h = refl
+button-plain B (suc (suc (suc zero))) x d h = refl
+button-plain B (suc (suc (suc (suc n)))) x d h = absurd (omega arith)
+
+playing-is : (g : GameState) → isPlaying g ≡ true → g ≡ Playing
+playing-is Playing e = refl
+playing-is Ready e = absurd (false≢true e)
+playing-is Win e = absurd (false≢true e)
+playing-is Loss e = absurd (false≢true e)
+playing-is PreFlaging e = absurd (false≢true e)
+
+module _ (code : ℕ) (x : Pointer) (p : Position) (shown bits : List ℕ) (t : (isPlaying (p .game) && ltb code 4) ≡ true) where
+  on-button : (p .game ≡ Playing) × (code < 4)
+  on-button = (playing-is (p .game) (and-left _ _ t), ltb-true code 4 (and-right (isPlaying (p .game)) _ t))
+
+  pub button-accepted : p .events < 65535 → 0 ≡ refusalAt code x (desk p shown bits)
+  unfolding refusalAt plainOf eventRefusal
+  button-accepted l = rw (lt-ltb (p .events) 65535 l, on-button .0) (sym (button-heard code x (desk p shown bits) (on-button .1)))
+
+  pub button-counts : (B : List ℤ) (o : Played) (shown′ bits′ : List ℕ) → done (o .answer) (desk (o .position) shown′ bits′) ≡ button B code x (desk p shown bits)
+      → done (o .answer) (desk (withEvents (o .position) (p .events + 1)) shown′ bits′) ≡ playAt B code x (desk p shown bits)
+  unfolding playAt
+  button-counts B o shown′ bits′ k =
+      ap (λ (s : Play). done (s .answer) (desk (withEvents (s .desk .position) (p .events + 1)) (s .desk .shown) (s .desk .bits)))
+      (k ∙ sym (button-plain B code x (desk p shown bits) (on-button .1)) ∙ ap (λ (g : GameState). byGame g B (plainOf code x (desk p shown bits)) (on (desk p shown bits) (withMiddle p (flipped code (p .middle))))) (sym (on-button .0)))
+
+-- what a button event asks
+pub button-needs : (B : List ℤ) (p : Position) (x : Pointer) (shown bits work : List ℕ) → LawfulAt B (desk p shown bits) → Blank (p .settings) work → Inside (p .settings) x
+    → AbleAt B p shown bits work × (Inside (p .settings) x × (mouseNumber (p .mouse) ≡ 5 → 1 ≤ p .counts .right))
+button-needs B p x shown bits work l w i = (able-lawful B p shown bits work l w, (i, λ m. l .kept .held (five (p .mouse) m)))

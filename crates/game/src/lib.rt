@@ -1,19 +1,23 @@
 // The game's core: one event on a lawful position, and a row of events. Nothing is tested here that the lawful position gives.
 // The contracts cite rules' Step and Calls, and specs/Core; `keep` gives that every step leaves what the next one asks.
 ghost use mathlib.Core.Path.{_≡_};
+ghost use mathlib.Core.Bool.{true, _&&_};
 ghost use mathlib.Core.List.{List};
 ghost use Prim.Native.Nat.{ℕ, _+_, _%_, _≤_};
+ghost use lib.Dec.{ltb};
 ghost use lib.ListN.{length, getD};
-ghost use lib.IntN.{ℤ};
-ghost use Rattle.rules.specs.Clicks.{desk, done};
+ghost use Rattle.rules.specs.States.{isPlaying, withEvents};
+ghost use Rattle.rules.specs.Clicks.{desk};
 ghost use Rattle.rules.specs.Step.{playAt, stepOn};
 ghost use Rattle.keep.specs.Kept.{Inside, LawfulAt};
 ghost use Rattle.events.specs.Able.{Plays};
-ghost use Rattle.game.specs.Core.{Blank, refusalOn, flowOn};
+ghost use Rattle.game.specs.Core.{Blank, refusalOn, moveAt, Moves, flowOn};
 use rules::Decoded;
+use rules::GameState;
 use rules::Played;
 use rules::Pointer;
 use rules::Position;
+use rules::Settings;
 
 // An accepted event is resolved, played by the game state, and counted.
 pub fn play_at(
@@ -43,30 +47,52 @@ pub fn play_at(
     }
 }
 
-// A move, most of what a recording holds: it changes the count of events alone, in every game state.
-fn move_on(p: Position, row: u8, column: u8) -> Played
-    requires { ⌜ p .events ≤ 65535 ⌝ }
-    ensures { λ r. ⌜ ((B : List ℤ) (shown bits : List ℕ) → done (r .answer) (desk (r .position) shown bits) ≡ stepOn B 4 row column (desk p shown bits)) ⌝ }
+// Moves, most of what a recording holds: they change the count of events alone, in every game state.
+fn count_moves(p: Position, n: u32) -> Played
+    requires { ⌜ p .events + n ≤ 65535 ⌝ }
+    ensures { λ r. ⌜ r ≡ record { answer = 0; position = withEvents p (p .events + n) } ⌝ }
 {
-    let s = p.settings;
-    let Decoded::At(x) = mouse::decode(s, row, column) else {
-        return Played {
-            answer: 30,
-            position: p,
-        };
-    };
-    if 65535 <= p.events {
-        return Played {
-            answer: 31,
-            position: p,
-        };
-    }
-    let n = p.events + 1;
-    let q = p.with_events(n);
+    let k = p.events + n;
+    let q = p.with_events(k);
     Played {
         answer: 0,
         position: q,
     }
+}
+
+// A button event while Playing is what its code says, and nothing refuses it.
+fn is_button(g: GameState, code: u8) -> bool
+    ensures { λ r. ⌜ r ≡ (isPlaying g && ltb code 4) ⌝ }
+{
+    match g {
+        GameState::Ready => false,
+        GameState::Playing => code < 4,
+        GameState::Win => false,
+        GameState::Loss => false,
+        GameState::PreFlaging => false,
+    }
+}
+
+// A button event while Playing, played and counted.
+fn press(
+    p: Position,
+    code: u8,
+    x: Pointer,
+    mines: &[i8],
+    shown: &mut [u8],
+    bits: &mut [u8],
+    work: &mut [u16],
+) -> Played
+    requires { ⌜ LawfulAt (now mines) (desk p (now shown) (now bits)) ⌝ }
+    requires { ⌜ Blank (p .settings) (now work) ⌝ }
+    requires { ⌜ Inside (p .settings) x ⌝ }
+    requires { ⌜ (isPlaying (p .game) && ltb code 4) ≡ true ⌝ }
+    ensures { λ r. ⌜ Plays (playAt (now (mines .entry)) code x) p (now (shown .entry)) (now (bits .entry)) (now (work .entry)) r (now (shown .exit)) (now (bits .exit)) (now (work .exit)) ⌝ }
+{
+    let n = p.events + 1;
+    let mut o = events::play_button(p, code, x, mines, &mut *shown, &mut *bits, &mut *work);
+    o.position.events = n;
+    o
 }
 
 // One event on a lawful position, with the work lent as zeros: 30 to 33, or the event.
@@ -84,9 +110,6 @@ pub fn step_on(
     requires { ⌜ Blank (p .settings) (now work) ⌝ }
     ensures { λ r. ⌜ Plays (stepOn (now (mines .entry)) code row column) p (now (shown .entry)) (now (bits .entry)) (now (work .entry)) r (now (shown .exit)) (now (bits .exit)) (now (work .exit)) ⌝ }
 {
-    if code == 4 {
-        return move_on(p, row, column);
-    }
     let s = p.settings;
     let Decoded::At(x) = mouse::decode(s, row, column) else {
         return Played {
@@ -94,6 +117,19 @@ pub fn step_on(
             position: p,
         };
     };
+    if 65535 <= p.events {
+        return Played {
+            answer: 31,
+            position: p,
+        };
+    }
+    if code == 4 {
+        return count_moves(p, 1);
+    }
+    let game = p.game;
+    if is_button(game, code) {
+        return press(p, code, x, mines, &mut *shown, &mut *bits, &mut *work);
+    }
     let n = mouse::refusal_at(p, &*shown, code, x);
     if n != 0 {
         return Played {
@@ -145,6 +181,42 @@ pub fn step_from(
     )
 }
 
+// The event at a place is a move that its pointer does not refuse.
+fn is_move(s: Settings, events: &[u8], at: usize) -> bool
+    requires { ⌜ at + 3 ≤ length (now events) ⌝ }
+    ensures { λ r. ⌜ r ≡ moveAt s (now (events .entry)) at ⌝ }
+{
+    if events[at] != 4 {
+        return false;
+    }
+    let row = events[at + 1];
+    let column = events[at + 2];
+    let Decoded::At(_) = mouse::decode(s, row, column) else {
+        return false;
+    };
+    true
+}
+
+// Moves that follow each other from a place on, at most so many: a recording holds long rows of them.
+fn moves(s: Settings, events: &[u8], from: usize, most: u32) -> u32
+    requires { ⌜ (from ≤ length (now events)) × (from % 3 ≡ 0) × (length (now events) % 3 ≡ 0) ⌝ }
+    ensures { λ r. ⌜ Moves s (now (events .entry)) from r × (r ≤ most) ⌝ }
+{
+    let mut at = from;
+    let mut n = 0u32;
+    while at < events.len() {
+        if most <= n {
+            return n;
+        }
+        if !is_move(s, events, at) {
+            return n;
+        }
+        at += 3;
+        n += 1;
+    }
+    n
+}
+
 // A row of whole events, up to the first refused one; the answer is that of the last event played, 0 where there is none.
 pub fn flow(
     p: Position,
@@ -166,11 +238,17 @@ pub fn flow(
     };
     while at < events.len() {
         let q = o.position;
-        o = step_from(q, events, at, mines, &mut *shown, &mut *bits, &mut *work);
-        if 20 <= o.answer {
-            return o;
+        let n = moves(q.settings, events, at, 65535 - q.events);
+        if n != 0 {
+            o = count_moves(q, n);
+            at += 3 * (n as usize);
+        } else {
+            o = step_from(q, events, at, mines, &mut *shown, &mut *bits, &mut *work);
+            if 20 <= o.answer {
+                return o;
+            }
+            at += 3;
         }
-        at += 3;
     }
     o
 }

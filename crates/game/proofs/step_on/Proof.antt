@@ -1,17 +1,12 @@
 -- `game::step_on` meets its contract.
-use borrow.Author.Needs.{needs}
-use mathlib.Core.Path.{_∙_, sym}
+use mathlib.Core.Path.{_∙_, sym, refl}
+use native.Mathlib.Omega.{arith}
 use Rattle.events.proofs.Plays.{plays-by, plays-here}
 use Rattle.keep.proofs.Step.{pointer-inside}
-use Rattle.game.proofs.Steps.{step-bad, step-refused, step-played}
+use Rattle.game.proofs.Steps.{step-bad, step-full, step-refused, step-played, step-moved, button-accepted}
+use borrow.Author.Needs.{needs}
 use Rattle.game.proofs.step_on.Statement.{statement}
 use Rattle.game.proofs.step_on.Tie as tie
-
-move-on-requires : tie.Need-move-on-requires
-move-on-requires c κs = c .before .before .before .before .pre .0 .few
-
-returns : tie.Need-returns
-returns c = plays-here (rw (c .before .if1 .taken) (c .move-on .ensures _ _ _))
 
 decode-requires : tie.Need-decode-requires
 decode-requires c κs = search needs
@@ -22,20 +17,26 @@ enum-known-x c = search needs
 enum-told : tie.Need-enum-told
 enum-told c = search needs
 
-returns-2 : tie.Need-returns-2
-returns-2 c = plays-here (step-bad _ (c .before .before .before .before .before .before .before .before .args .code) (c .before .before .before .before .before .before .before .before .args .row) (c .before .before .before .before .before .before .before .before .args .column) (c .before .before .before .before .before .before .before .before .args .p) _ _ _ (c .before .before .decode .ensures) (c .enum-told .given .1))
+returns : tie.Need-returns
+returns c = plays-here (step-bad _ (c .before .before .before .before .before .before .before .args .code) (c .before .before .before .before .before .before .before .args .row) (c .before .before .before .before .before .before .before .args .column) (c .before .before .before .before .before .before .before .args .p) _ _ _ (c .before .before .decode .ensures) (c .enum-told .given .1))
 
-refusal-at-requires : tie.Need-refusal-at-requires
-refusal-at-requires c κs = search needs
+returns-2 : tie.Need-returns-2
+returns-2 c = plays-here (step-full _ (c .before .before .before .before .before .before .before .before .before .before .args .code) (c .before .before .before .before .before .before .before .before .before .before .args .row) (c .before .before .before .before .before .before .before .before .before .before .args .column) (c .before .before .before .before .before .before .before .before .before .before .args .p) _ _ _ (c .before .before .before .before .before .decode .ensures) _ (c .before .before .before .x .given .1) (c .if1 .taken))
+
+count-moves-requires : tie.Need-count-moves-requires
+count-moves-requires c κs = omega (arith, c .before .if1 .left)
+
+returns-3 : tie.Need-returns-3
+returns-3 c = plays-here (step-moved _ (c .before .before .before .before .before .before .before .before .before .before .before .before .args .code) (c .before .before .before .before .before .before .before .before .before .before .before .before .args .row) (c .before .before .before .before .before .before .before .before .before .before .before .before .args .column) (c .before .before .before .before .before .before .before .before .before .before .before .before .args .p) _ _ _ (c .before .before .before .before .before .before .before .decode .ensures) _ (c .before .before .before .before .before .x .given .1) (c .before .if2 .taken) (c .before .before .if1 .left) _ (c .count-moves .ensures))
+
+is-button-requires : tie.Need-is-button-requires
+is-button-requires c κs = search needs
+
+press-requires : tie.Need-press-requires
+press-requires c κs = (c .before .before .before .before .before .before .before .before .before .before .before .before .before .before .before .before .pre .0, (c .before .before .before .before .before .before .before .before .before .before .before .before .before .before .before .before .pre .1, (pointer-inside (c .before .before .before .before .before .before .before .before .before .before .before .before .before .before .before .before .args .p .settings) (c .before .before .before .before .before .before .before .before .before .before .before .before .before .before .before .before .args .row) (c .before .before .before .before .before .before .before .before .before .before .before .before .before .before .before .before .args .column) _ (sym (c .before .before .before .before .before .before .before .before .before .before .before .decode .ensures) ∙ c .before .before .before .before .before .before .before .before .before .x .given .1), sym (c .before .before .before .before .is-button .ensures) ∙ c .before .before .before .if3 .taken)))
 
 same-length : tie.Need-same-length
 same-length c = search needs
-
-returns-3 : tie.Need-returns-3
-returns-3 c = plays-here (step-refused _ (c .before .before .before .before .before .before .before .before .before .before .before .before .args .code) (c .before .before .before .before .before .before .before .before .before .before .before .before .args .row) (c .before .before .before .before .before .before .before .before .before .before .before .before .args .column) (c .before .before .before .before .before .before .before .before .before .before .before .before .args .p) _ _ _ (c .before .before .before .before .before .before .decode .ensures) _ _ (c .before .before .before .before .x .given .1) (c .before .refusal-at .ensures _) (c .if2 .taken))
-
-play-at-requires : tie.Need-play-at-requires
-play-at-requires c κs = (c .before .before .before .before .before .before .before .before .before .before .before .before .before .before .before .pre .0, (c .before .before .before .before .before .before .before .before .before .before .before .before .before .before .before .pre .1, pointer-inside (c .before .before .before .before .before .before .before .before .before .before .before .before .before .before .before .args .p .settings) (c .before .before .before .before .before .before .before .before .before .before .before .before .before .before .before .args .row) (c .before .before .before .before .before .before .before .before .before .before .before .before .before .before .before .args .column) _ (sym (c .before .before .before .before .before .before .before .before .before .decode .ensures) ∙ c .before .before .before .before .before .before .before .x .given .1)))
 
 same-length-2 : tie.Need-same-length-2
 same-length-2 c = search needs
@@ -43,27 +44,55 @@ same-length-2 c = search needs
 same-length-3 : tie.Need-same-length-3
 same-length-3 c = search needs
 
+returns-4 : tie.Need-returns-4
+returns-4 c = plays-by (c .before .before .before .before .before .before .press .ensures) (step-played _ (c .before .before .before .before .before .before .before .before .before .before .before .before .before .before .before .before .before .before .before .before .before .before .before .args .code) (c .before .before .before .before .before .before .before .before .before .before .before .before .before .before .before .before .before .before .before .before .before .before .before .args .row) (c .before .before .before .before .before .before .before .before .before .before .before .before .before .before .before .before .before .before .before .before .before .before .before .args .column) (c .before .before .before .before .before .before .before .before .before .before .before .before .before .before .before .before .before .before .before .before .before .before .before .args .p) _ _ _ (c .before .before .before .before .before .before .before .before .before .before .before .before .before .before .before .before .before .before .decode .ensures) _ _ (c .before .before .before .before .before .before .before .before .before .before .before .before .before .before .before .before .x .given .1) (button-accepted (c .before .before .before .before .before .before .before .before .before .before .before .before .before .before .before .before .before .before .before .before .before .before .before .args .code) _ (c .before .before .before .before .before .before .before .before .before .before .before .before .before .before .before .before .before .before .before .before .before .before .before .args .p) _ _ (sym (c .before .before .before .before .before .before .before .before .before .before .before .is-button .ensures) ∙ c .before .before .before .before .before .before .before .before .before .before .if3 .taken) (c .before .before .before .before .before .before .before .before .before .before .before .before .before .if1 .left)) refl)
+
+refusal-at-requires : tie.Need-refusal-at-requires
+refusal-at-requires c κs = search needs
+
 same-length-4 : tie.Need-same-length-4
 same-length-4 c = search needs
 
-returns-4 : tie.Need-returns-4
-returns-4 c = plays-by (c .before .before .before .before .before .before .play-at .ensures) (step-played _ (c .before .before .before .before .before .before .before .before .before .before .before .before .before .before .before .before .before .before .before .before .before .before .args .code) (c .before .before .before .before .before .before .before .before .before .before .before .before .before .before .before .before .before .before .before .before .before .before .args .row) (c .before .before .before .before .before .before .before .before .before .before .before .before .before .before .before .before .before .before .before .before .before .before .args .column) (c .before .before .before .before .before .before .before .before .before .before .before .before .before .before .before .before .before .before .before .before .before .before .args .p) _ _ _ (c .before .before .before .before .before .before .before .before .before .before .before .before .before .before .before .before .decode .ensures) _ _ (c .before .before .before .before .before .before .before .before .before .before .before .before .before .before .x .given .1) (c .before .before .before .before .before .before .before .before .before .before .before .refusal-at .ensures _) (c .before .before .before .before .before .before .before .before .before .before .if2 .left))
+returns-5 : tie.Need-returns-5
+returns-5 c = plays-here (step-refused _ (c .before .before .before .before .before .before .before .before .before .before .before .before .before .before .before .before .args .code) (c .before .before .before .before .before .before .before .before .before .before .before .before .before .before .before .before .args .row) (c .before .before .before .before .before .before .before .before .before .before .before .before .before .before .before .before .args .column) (c .before .before .before .before .before .before .before .before .before .before .before .before .before .before .before .before .args .p) _ _ _ (c .before .before .before .before .before .before .before .before .before .before .before .decode .ensures) _ _ (c .before .before .before .before .before .before .before .before .before .x .given .1) (c .before .refusal-at .ensures _) (c .if4 .taken))
+
+play-at-requires : tie.Need-play-at-requires
+play-at-requires c κs = (c .before .before .before .before .before .before .before .before .before .before .before .before .before .before .before .before .before .before .before .pre .0, (c .before .before .before .before .before .before .before .before .before .before .before .before .before .before .before .before .before .before .before .pre .1, pointer-inside (c .before .before .before .before .before .before .before .before .before .before .before .before .before .before .before .before .before .before .before .args .p .settings) (c .before .before .before .before .before .before .before .before .before .before .before .before .before .before .before .before .before .before .before .args .row) (c .before .before .before .before .before .before .before .before .before .before .before .before .before .before .before .before .before .before .before .args .column) _ (sym (c .before .before .before .before .before .before .before .before .before .before .before .before .before .before .decode .ensures) ∙ c .before .before .before .before .before .before .before .before .before .before .before .before .x .given .1)))
+
+same-length-5 : tie.Need-same-length-5
+same-length-5 c = search needs
+
+same-length-6 : tie.Need-same-length-6
+same-length-6 c = search needs
+
+same-length-7 : tie.Need-same-length-7
+same-length-7 c = search needs
+
+returns-6 : tie.Need-returns-6
+returns-6 c = plays-by (c .before .before .before .before .before .before .play-at .ensures) (step-played _ (c .before .before .before .before .before .before .before .before .before .before .before .before .before .before .before .before .before .before .before .before .before .before .before .before .before .before .args .code) (c .before .before .before .before .before .before .before .before .before .before .before .before .before .before .before .before .before .before .before .before .before .before .before .before .before .before .args .row) (c .before .before .before .before .before .before .before .before .before .before .before .before .before .before .before .before .before .before .before .before .before .before .before .before .before .before .args .column) (c .before .before .before .before .before .before .before .before .before .before .before .before .before .before .before .before .before .before .before .before .before .before .before .before .before .before .args .p) _ _ _ (c .before .before .before .before .before .before .before .before .before .before .before .before .before .before .before .before .before .before .before .before .before .decode .ensures) _ _ (c .before .before .before .before .before .before .before .before .before .before .before .before .before .before .before .before .before .before .before .x .given .1) (c .before .before .before .before .before .before .before .before .before .before .before .refusal-at .ensures _) (c .before .before .before .before .before .before .before .before .before .before .if4 .left))
 
 pub step-on-spec : {M : Type 1} → statement M
 step-on-spec =
     tie.close
     (tie.spec
-    move-on-requires
-    returns
     decode-requires
     enum-known-x
     enum-told
+    returns
     returns-2
-    refusal-at-requires
-    same-length
+    count-moves-requires
     returns-3
-    play-at-requires
+    is-button-requires
+    press-requires
+    same-length
     same-length-2
     same-length-3
+    returns-4
+    refusal-at-requires
     same-length-4
-    returns-4)
+    returns-5
+    play-at-requires
+    same-length-5
+    same-length-6
+    same-length-7
+    returns-6)
