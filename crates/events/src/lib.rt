@@ -192,10 +192,11 @@ fn play_lr(
 {
     let held = p.mouse;
     let m = rules::mouse_number(held);
-    let q = mouse::moved(1, p);
     if m == 3 {
+        let q = mouse::moved(1, p);
         return left_at(q, x, mines, &mut *shown, &mut *work);
     }
+    let q = mouse::moved(1, p);
     chord_from(m, q, x, mines, &mut *shown, &mut *bits, &mut *work)
 }
 
@@ -214,6 +215,15 @@ fn play_rr(
 {
     let held = p.mouse;
     let m = rules::mouse_number(held);
+    if m != 4 {
+        if m != 5 {
+            let q = mouse::moved(3, p);
+            return Played {
+                answer: 0,
+                position: q,
+            };
+        }
+    }
     let q = mouse::moved(3, p);
     chord_from(m, q, x, mines, &mut *shown, &mut *bits, &mut *work)
 }
@@ -233,19 +243,20 @@ fn play_rc(
 {
     let held = p.mouse;
     let m = rules::mouse_number(held);
-    let q = mouse::moved(2, p);
-    if m == 0 {
-        let v = mouse::seen_at(p, &*shown, x);
-        if 10 <= v {
-            return right_at(q, x, mines, &mut *shown, &mut *bits, &mut *work);
-        }
-        let z = p.with_mouse(MouseState::UpDownNotFlag);
-        return right_at(z, x, mines, &mut *shown, &mut *bits, &mut *work);
+    if m != 0 {
+        let q = mouse::moved(2, p);
+        return Played {
+            answer: 0,
+            position: q,
+        };
     }
-    Played {
-        answer: 0,
-        position: q,
+    let v = mouse::seen_at(p, &*shown, x);
+    if 10 <= v {
+        let q = mouse::moved(2, p);
+        return right_at(q, x, mines, &mut *shown, &mut *bits, &mut *work);
     }
+    let q = p.with_mouse(MouseState::UpDownNotFlag);
+    right_at(q, x, mines, &mut *shown, &mut *bits, &mut *work)
 }
 
 fn play_mr(
