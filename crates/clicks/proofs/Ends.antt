@@ -1,15 +1,19 @@
 -- How an opening ends: the way through the code, and what it leaves of a desk; and the two cases of a chord.
-use mathlib.Core.Path.{_≡_, refl, ap, _∙_}
+use mathlib.Core.Path.{_≡_, refl, ap, ap₂, _∙_}
 use mathlib.Core.Bool.{Bool, true, false}
-use mathlib.Core.List.{List}
+use mathlib.Core.List.{List, [], _∷_}
 use mathlib.Core.Logic.{_⊎_, inl, inr}
-use Prim.Native.Nat.{ℕ}
+use Prim.Native.Nat.{ℕ, suc, _+_, _*_}
+use native.Mathlib.Omega.{arith}
+use borrow.Author.Tests.{eq-eqb, ne-eqb}
+use lib.ListN.{getD, set}
 use lib.IntN.{ℤ}
 use Rattle.rules.specs.declared.Position.{Position}
 use Rattle.rules.specs.declared.Played.{Played}
 use Rattle.rules.specs.declared.GameState.the-variants.{Win, Loss}
 use Rattle.rules.specs.States.{withGame}
-use Rattle.rules.specs.Opening.{Opened, refreshed}
+use Rattle.rules.specs.Board.{faceAt}
+use Rattle.rules.specs.Opening.{Opened, refreshed, run, turns, shownAfter, stackAfter, hitAfter}
 use Rattle.rules.specs.Clicks.{Desk, Play, desk, done, showing, rowsOf, columnsOf, isWon, ended, chordIsUseful, closedAround, chordOpens, performChord}
 use Rattle.clicks.specs.Room.{Acts, opensWith}
 
@@ -50,6 +54,30 @@ pub opened-ends : (B : List ℤ) (n : ℕ) (given : List ℕ) (p : Position) (sh
     → work′ ≡ work → Acts (opensWith B n given) p shown work r shown′ work′
 opened-ends B n given p shown work r shown′ work′ hit o e w =
     record { outcome = λ bits. e shown bits ∙ ap (ended B n (desk p shown bits)) o; same = w }
+
+-- a number that is opened is shown, and opens nothing more
+module _ (B : List ℤ) (R C i : ℕ) (shown : List ℕ) (ten : getD shown i 0 ≡ 10) (nonzero : faceAt B i ≡ 0 → ⊥) (mine : faceAt B i ≡ 15 → ⊥) where
+  shows-number : shownAfter B shown i ≡ set shown i (faceAt B i)
+  unfolding shownAfter
+  shows-number = simp (eq-eqb _ _ ten)
+
+  pushes-none : stackAfter B R C shown i [] ≡ []
+  unfolding stackAfter
+  pushes-none = simp (eq-eqb _ _ ten, ne-eqb _ _ nonzero)
+
+  hits-none : hitAfter B shown i false ≡ false
+  unfolding hitAfter
+  hits-none = simp (eq-eqb _ _ ten, ne-eqb _ _ mine)
+
+  number-runs : (f : ℕ) → run B R C (suc (suc f)) (i ∷ []) shown false ≡ record { shown = set shown i (faceAt B i); hit = false }
+  unfolding run
+  number-runs f =
+      ap₂ (λ (st s : List ℕ). run B R C (suc f) st s (hitAfter B shown i false)) pushes-none shows-number
+      ∙ ap (λ (h : Bool). run B R C (suc f) [] (set shown i (faceAt B i)) h) hits-none
+
+  pub opened-number : _≡_ {A = Opened} (record { shown = set shown i (faceAt B i); hit = false }) (refreshed B R C (i ∷ []) shown)
+  unfolding refreshed
+  opened-number = let t : turns (R * C) ≡ suc (suc (8 * (R * C) + 6)) = omega arith in rw (t, number-runs (8 * (R * C) + 6)) refl
 
 -- a chord runs, or it changes nothing
 module _ (B : List ℤ) (i : ℕ) (d : Desk) where

@@ -76,24 +76,28 @@ module _ (B : List ℤ) (p : Position) (shown work : List ℕ) (i : ℕ) (q : Po
     pub left-counted : Laid B p shown work → Laid B z shown work′
     left-counted l = laid-same l counted-settings (a .same)
 
-    pub left-below : (c : Cells) → Collected (i ∷ []) 1 c → i < p .settings .rows * p .settings .columns
-        → (c .n ≤ 8) × Below (z .settings .rows * z .settings .columns) (stackOf (c .at) (c .n))
-    left-below c k h = (omega (arith, k .most), rw (k .stack, counted-settings) (h, tt))
+    pub left-place : i < p .settings .rows * p .settings .columns → i < z .settings .rows * z .settings .columns
+    left-place h = rw counted-settings h
 
-    pub left-done : getD shown i 0 ≡ 10 → (c : Cells) → Collected (i ∷ []) 1 c → (r : Played) (shown′ work″ : List ℕ)
-        → Acts (opensWith B 2 (stackOf (c .at) (c .n))) z shown work′ r shown′ work″ → Acts (leftClick B i) p shown work r shown′ work″
+    pub left-done : getD shown i 0 ≡ 10 → (r : Played) (shown′ work″ : List ℕ)
+        → Acts (opensWith B 2 (i ∷ [])) z shown work′ r shown′ work″ → Acts (leftClick B i) p shown work r shown′ work″
     unfolding leftClick
-    left-done ten c k r shown′ work″ o = record { outcome = λ bits. o .outcome bits ∙ way bits; same = o .same ∙ a .same }
+    left-done ten r shown′ work″ o = record { outcome = λ bits. o .outcome bits ∙ way bits; same = o .same ∙ a .same }
       where
         start : (bits : List ℕ) → leftOpens B i (desk q shown bits) ≡ leftClick B i (desk p shown bits)
         start bits = simp (eq-eqb _ _ ten, added)
 
-        way : (bits : List ℕ) → opensWith B 2 (stackOf (c .at) (c .n)) (desk z shown bits) ≡ leftClick B i (desk p shown bits)
-        way bits =
-            ap (λ (st : List ℕ). opensWith B 2 st (desk z shown bits)) (k .stack)
-            ∙ ap (opensWith B 2 (i ∷ [])) (a .outcome bits)
-            ∙ left-opens B i (desk q shown bits)
-            ∙ start bits
+        way : (bits : List ℕ) → opensWith B 2 (i ∷ []) (desk z shown bits) ≡ leftClick B i (desk p shown bits)
+        way bits = ap (opensWith B 2 (i ∷ [])) (a .outcome bits) ∙ left-opens B i (desk q shown bits) ∙ start bits
+
+-- a cell by itself is on the board
+pub only-below : (n i : ℕ) (c : Cells) → Collected (i ∷ []) 1 c → i < n → (c .n ≤ 8) × Below n (stackOf (c .at) (c .n))
+only-below n i c k h = (omega (arith, k .most), rw (k .stack) (h, tt))
+
+pub only-opens : (B : List ℤ) (i : ℕ) (c : Cells) (p : Position) (shown work : List ℕ) → Collected (i ∷ []) 1 c → (r : Played) (shown′ work′ : List ℕ)
+    → Acts (opensWith B 2 (stackOf (c .at) (c .n))) p shown work r shown′ work′ → Acts (opensWith B 2 (i ∷ [])) p shown work r shown′ work′
+only-opens B i c p shown work k r shown′ work′ a =
+    record { outcome = λ bits. a .outcome bits ∙ ap (λ (st : List ℕ). opensWith B 2 st (desk p shown bits)) (k .stack); same = a .same }
 
 -- ---- chord -----------------------------------------------------------------------------------------------------------------------------
 

@@ -1,6 +1,7 @@
 // The clicks: left, the right click's flag and its taking back, the chord without the counts of the hand, and the win test.
 // The contracts cite rules' Clicks, and specs/Room for what the clicks require and how their outcomes read.
 ghost use mathlib.Core.Path.{_≡_};
+ghost use mathlib.Core.Bool.{true};
 ghost use mathlib.Core.List.{List, [], _∷_};
 ghost use Prim.Native.Nat.{ℕ, _*_, _/_, _<_, _≤_};
 ghost use lib.ListN.{length, getD};
@@ -198,6 +199,34 @@ fn only(cell: usize) -> Cells
     }
 }
 
+fn is_number(face: u8) -> bool
+    ensures { λ r. ⌜ (r ≡ true → (face ≡ 0 → ⊥) × (face ≡ 15 → ⊥)) ⌝ }
+{
+    if face == 0 {
+        return false;
+    }
+    if face == 15 {
+        return false;
+    }
+    true
+}
+
+// Opens a closed cell, and ends with 2 where it is no mine. A number is shown, and opens nothing more.
+fn open_cell(p: Position, mines: &[i8], shown: &mut [u8], work: &mut [u16], cell: usize) -> Played
+    requires { ⌜ Laid (now mines) p (now shown) (now work) ⌝ }
+    requires { ⌜ cell < p .settings .rows * p .settings .columns ⌝ }
+    requires { ⌜ getD (now shown) cell 0 ≡ 10 ⌝ }
+    ensures { λ r. ⌜ Acts (opensWith (now (mines .entry)) 2 (cell ∷ [])) p (now (shown .entry)) (now (work .entry)) r (now (shown .exit)) (now (work .exit)) ⌝ }
+{
+    let face = cells::face_at(mines, cell);
+    if is_number(face) {
+        shown[cell] = face;
+        return end_opening(p, mines, shown, cell, false, 2);
+    }
+    let one = only(cell);
+    open_cells(p, mines, shown, work, one, 2)
+}
+
 // LEFT: left + 1; unless the cell shows 10, answer 0; a mine: 15, Loss, 4; else open it, lce + 1, test for the win, 2.
 pub fn left_click(
     p: Position,
@@ -220,8 +249,7 @@ pub fn left_click(
         };
     }
     let z = left_counts(q, mines, shown, work, cell);
-    let one = only(cell);
-    open_cells(z, mines, shown, work, one, 2)
+    open_cell(z, mines, shown, work, cell)
 }
 
 // ---- right -----------------------------------------------------------------------------------------------------------------------------

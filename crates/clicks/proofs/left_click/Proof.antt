@@ -1,7 +1,6 @@
--- `left_click`: a cell that does not show 10 counts the click alone; any other counts, then opens.
-use native.Mathlib.Omega.{arith}
+-- `clicks::left_click` meets its contract.
+use Rattle.clicks.proofs.Steps.{left-idle, left-laid, left-counted, left-place, left-done}
 use borrow.Author.Needs.{needs}
-use Rattle.clicks.proofs.Steps.{left-idle, left-laid, left-counted, left-below, left-done}
 use Rattle.clicks.proofs.left_click.Statement.{statement}
 use Rattle.clicks.proofs.left_click.Tie as tie
 
@@ -20,11 +19,8 @@ returns c = left-idle _ _ _ _ _ _ (c .before .before .with-left .ensures) (c .if
 left-counts-requires : tie.Need-left-counts-requires
 left-counts-requires c κs = (left-laid _ _ _ _ (c .before .before .before .before .before .before .before .before .args .cell) _ (c .before .before .before .before .with-left .ensures) (c .before .before .before .before .before .before .before .before .pre .0), rw (c .before .before .before .before .with-left .ensures) (c .before .before .before .before .before .before .before .before .pre .1 .0, (c .before .before .before .before .before .before .before .before .pre .1 .1 .lce, c .before .before .before .before .before .before .before .before .pre .1 .1 .solved)))
 
-only-requires : tie.Need-only-requires
-only-requires c κs = omega (arith, c .before .before .before .before .before .before .before .before .before .before .before .pre .1 .0, c .before .before .before .before .before .before .before .before .before .before .before .pre .0 .fits .mined .sized .cells)
-
-open-cells-requires : tie.Need-open-cells-requires
-open-cells-requires c κs = let a = (c .before .before .before .before .before .before .before .before .before .before .before .before .before .before .args) in (left-counted _ _ _ _ _ _ (c .before .before .before .before .before .before .before .before .before .before .with-left .ensures) _ _ (c .before .before .before .before .before .left-counts .ensures) (c .before .before .before .before .before .before .before .before .before .before .before .before .before .before .pre .0), left-below (a .mines .now) _ _ _ _ _ (c .before .before .before .before .before .before .before .before .before .before .with-left .ensures) _ _ (c .before .before .before .before .before .left-counts .ensures) _ (c .before .before .only .ensures) (c .before .before .before .before .before .before .before .before .before .before .before .before .before .before .pre .1 .0))
+open-cell-requires : tie.Need-open-cell-requires
+open-cell-requires c κs = let a = (c .before .before .before .before .before .before .before .before .before .before .before .before .before .args) in (left-counted (a .mines .now) _ _ _ (a .cell) _ (c .before .before .before .before .before .before .before .before .before .with-left .ensures) _ _ (c .before .before .before .before .left-counts .ensures) (c .before .before .before .before .before .before .before .before .before .before .before .before .before .pre .0), (left-place (a .mines .now) _ _ _ (a .cell) _ (c .before .before .before .before .before .before .before .before .before .with-left .ensures) _ _ (c .before .before .before .before .left-counts .ensures) (c .before .before .before .before .before .before .before .before .before .before .before .before .before .pre .1 .0), c .before .before .before .before .before .before .before .if1 .left))
 
 same-length : tie.Need-same-length
 same-length c = search needs
@@ -33,7 +29,7 @@ same-length-2 : tie.Need-same-length-2
 same-length-2 c = search needs
 
 returns-2 : tie.Need-returns-2
-returns-2 c = left-done _ _ _ _ _ _ (c .before .before .before .before .before .before .before .before .before .before .before .before .before .before .before .with-left .ensures) _ _ (c .before .before .before .before .before .before .before .before .before .before .left-counts .ensures) (c .before .before .before .before .before .before .before .before .before .before .before .before .before .if1 .left) _ (c .before .before .before .before .before .before .before .only .ensures) _ _ _ (c .before .before .before .before .open-cells .ensures)
+returns-2 c = left-done _ _ _ _ _ _ (c .before .before .before .before .before .before .before .before .before .before .before .before .before .before .with-left .ensures) _ _ (c .before .before .before .before .before .before .before .before .before .left-counts .ensures) (c .before .before .before .before .before .before .before .before .before .before .before .before .if1 .left) _ _ _ (c .before .before .before .before .open-cell .ensures)
 
 pub left-click-spec : {M : Type 1} → statement M
 left-click-spec =
@@ -44,8 +40,7 @@ left-click-spec =
     slice-read-if1
     returns
     left-counts-requires
-    only-requires
-    open-cells-requires
+    open-cell-requires
     same-length
     same-length-2
     returns-2)
