@@ -1,8 +1,8 @@
 -- What an opened cell shows: the signed test and cast of the code, at a value of the board; and a cell looked at.
 use mathlib.Core.Path.{_≡_, refl, ap, sym, _∙_}
-use mathlib.Core.Bool.{Bool, true, false, true≢false, false≢true}
-use Prim.Native.Nat.{ℕ, zero, suc, _+_, _≤_, zero-le}
-use borrow.Author.Tests.{le-ltb, leb-true, ne-eqb, eqb-true}
+use mathlib.Core.Bool.{true, false, true≢false, false≢true}
+use Prim.Native.Nat.{ℕ, zero, suc, _+_, _<_, _≤_, zero-le}
+use borrow.Author.Tests.{le-ltb, lt-ltb, leb-true, ne-eqb, eqb-true}
 use native.Mathlib.Omega.{arith}
 use mathlib.Core.List.{List}
 use lib.Dec.{T, eqb}
@@ -13,12 +13,11 @@ use mir.Syntax.{w8}
 use mir.Val.{Fits, toZ, ofZ}
 use mir.ValLaws.{toZ-ofZ}
 use Rattle.rules.specs.Words.{bit}
-use Rattle.rules.specs.Board.{face, valueOk}
+use Rattle.rules.specs.Board.{face, faceAt, valueOk}
 use Rattle.rules.specs.Opening.{closedAt}
 use Rattle.rules.specs.Clicks.{flagAt}
 use Rattle.cells.specs.declared.Around.{Around}
-use Rattle.cells.specs.Ground.{Saw}
-use Rattle.cells.proofs.Words.{bit-le}
+use Rattle.cells.specs.Ground.{faceIs, Saw}
 
 number-back : (n : ℕ) → n ≤ 8 → toZ w8 (ofZ w8 (pos n)) ≡ pos n
 number-back n h = toZ-ofZ w8 (pos n) (record { sfits = omega arith })
@@ -45,6 +44,10 @@ pub face-safe : (z : ℤ) → valueOk z ≡ true → (face z ≡ 15 → ⊥) →
 face-safe (pos n) v h = leb-true n 8 v
 face-safe (negsuc n) v h = absurd (h refl)
 
+-- a face, where the cell is on the board
+pub face-on : (B : List ℤ) (f q : ℕ) → q < length B → faceIs B f q ≡ eqb (faceAt B q) f
+face-on B f q h = rw (lt-ltb q (length B) h)
+
 -- ---- a cell looked at, and counted --------------------------------------------------------------------------------------------------------
 
 -- off the board nothing is shown
@@ -70,11 +73,3 @@ saw-closed shown q past e =
     let a : bit (flagAt shown q) ≡ 0 = ap (λ (x : ℕ). bit (eqb x 11)) e in
     let b : bit (closedAt shown q) ≡ 1 = ap (λ (x : ℕ). bit (eqb x 10)) e in
     record { flag = omega arith; close = omega arith }
-
--- no cell is both
-pub flag-or-closed : (x : ℕ) → bit (eqb x 11) + bit (eqb x 10) ≤ 1
-flag-or-closed x = go (eqb x 11) refl
-  where
-    go : (b : Bool) → eqb x 11 ≡ b → bit b + bit (eqb x 10) ≤ 1
-    go true e = let h : bit (eqb x 10) ≡ 0 = ap (λ (y : ℕ). bit (eqb y 10)) (eqb-true x 11 e) in omega arith
-    go false e = let h = bit-le (eqb x 10) in omega arith

@@ -3,15 +3,15 @@ use mathlib.Core.Path.{_≡_, refl, ap, ap₂, sym, _∙_}
 use mathlib.Core.Bool.{Bool, true, false, _&&_}
 use mathlib.Core.List.{List}
 use Prim.Native.Nat.{ℕ, zero, suc, _+_, _-_, _*_, _/_, _%_, _<_, _≤_}
-use native.Mathlib.Nat.{div-add-mod'}
+use native.Mathlib.Nat.{div-add-mod', add-mul, mul-le-mul-right}
 use native.Mathlib.Omega.{arith}
 use lib.Arith.{digits-lt, digits-div, digits-mod}
-use borrow.Author.Tests.{leb-true}
-use lib.Dec.{leb}
+use borrow.Author.Tests.{leb-true, ltb-true, le-leb}
+use lib.Dec.{leb, ltb}
 use lib.ListN.{length}
 use Rattle.rules.specs.Words.{bit, count}
 use Rattle.rules.specs.Grid.{sizeOk, cellOf, ninth, cellBefore, neighbour, around, pushIf, pushed}
-use Rattle.cells.specs.Ground.{Sized, Below}
+use Rattle.cells.specs.Ground.{Sized, isInner, ringAt, ring, Below}
 use Rattle.cells.proofs.Words.{and-left, and-right, pick-le, count-same, count-turn, count-le}
 
 -- the size test gives the limits
@@ -115,3 +115,82 @@ around-turn R C row column p k q n m h e d f =
 pub around-done : (R C i : ℕ) (p : ℕ → Bool) (k n : ℕ) → k ≡ 8 → n ≡ count (λ j. p (neighbour R C i j)) k → n ≡ around R C p i
 unfolding around
 around-done R C i p k n e d = d ∙ ap (count (λ j. p (neighbour R C i j))) e
+
+-- ---- a cell with all its eight neighbours ------------------------------------------------------------------------------------------------
+
+-- the eight neighbours lie at fixed distances from the first of the nine cells
+pub record Inner (R C row column : ℕ) : Type 0 where
+  pub above : 1 ≤ row
+  pub below : row + 1 < R
+  pub before : 1 ≤ column
+  pub after : column + 1 < C
+
+pub inner-test : (R C row column : ℕ) → isInner R C row column ≡ true → Inner R C row column
+inner-test R C row column e =
+    let a = and-right (leb 1 row) _ e in
+    let b = and-right (ltb (row + 1) R) _ a in
+    record {
+      above = leb-true 1 row (and-left (leb 1 row) _ e);
+      below = ltb-true (row + 1) R (and-left (ltb (row + 1) R) _ a);
+      before = leb-true 1 column (and-left (leb 1 column) _ b);
+      after = ltb-true (column + 1) C (and-right (leb 1 column) _ b);
+    }
+
+-- the first of the nine cells around a cell
+abbrev pub firstOf : ℕ → ℕ → ℕ → ℕ
+firstOf C row column = (row - 1) * C + (column - 1)
+
+-- nine places in threes: the third row is two rows lower
+pub third-le : (C j : ℕ) → j < 9 → j / 3 * C ≤ 2 * C
+third-le C j h = let d : j / 3 ≤ 2 = omega arith in mul-le-mul-right C d
+
+-- the places of a ring end with the last of the nine
+pub ring-le : (C q k : ℕ) → k < 8 → ringAt C q k ≤ q + 2 * C + 2
+ring-le C q k h = let n = ninth-le k in let m = third-le C (ninth k) (omega arith) in omega arith
+
+-- a loop over a ring, one turn on
+pub ring-turn : (C first : ℕ) (p : ℕ → Bool) (k q n one : ℕ) → q ≡ ringAt C first k → n ≡ count (λ j. p (ringAt C first j)) k → one ≡ bit (p q)
+    → n + one ≡ count (λ j. p (ringAt C first j)) (k + 1)
+ring-turn C first p k q n one e d f = count-turn (λ j. p (ringAt C first j)) k n one d (f ∙ ap (λ (x : ℕ). bit (p x)) e)
+
+-- and at its end
+pub ring-done : (C first : ℕ) (p : ℕ → Bool) (k n : ℕ) → k ≡ 8 → n ≡ count (λ j. p (ringAt C first j)) k → n ≡ ring C p first
+ring-done C first p k n e d = d ∙ ap (count (λ j. p (ringAt C first j))) e
+
+module _ (R C row column : ℕ) (i : Inner R C row column) where
+  -- THE LAW of an inner cell
+  pub inner-neighbour : (k : ℕ) → k < 8 → neighbour R C (cellOf C row column) k ≡ ringAt C (firstOf C row column) k
+  unfolding cellBefore
+  inner-neighbour k h =
+      let a = ninth-le k in
+      let above = i .above in
+      let below = i .below in
+      let before = i .before in
+      let after = i .after in
+      let e : row + ninth k / 3 - 1 ≡ row - 1 + ninth k / 3 = omega arith in
+      let d : cellOf C (row + ninth k / 3 - 1) (column + ninth k % 3 - 1) ≡ ringAt C (firstOf C row column) k =
+      let m = add-mul (row - 1) (ninth k / 3) C in
+      let n : (row + ninth k / 3 - 1) * C ≡ (row - 1) * C + ninth k / 3 * C = ap (λ (x : ℕ). x * C) e ∙ m in
+      omega arith in
+      let r1 : leb 1 (row + ninth k / 3) ≡ true = le-leb 1 (row + ninth k / 3) (omega arith) in
+      let rR : leb (row + ninth k / 3) R ≡ true = le-leb (row + ninth k / 3) R (omega arith) in
+      let c1 : leb 1 (column + ninth k % 3) ≡ true = le-leb 1 (column + ninth k % 3) (omega arith) in
+      let cC : leb (column + ninth k % 3) C ≡ true = le-leb (column + ninth k % 3) C (omega arith) in
+      sym (neighbour-at R C row column k (omega arith)) ∙ rw (r1, rR, c1, cC) d
+
+  -- a count around it
+  pub inner-around : (p : ℕ → Bool) → around R C p (cellOf C row column) ≡ ring C p (firstOf C row column)
+  unfolding around
+  inner-around p =
+      count-same (λ k. p (neighbour R C (cellOf C row column) k)) (λ k. p (ringAt C (firstOf C row column) k)) 8 (λ k h. ap p (inner-neighbour k h))
+
+  -- the last of the nine is on the board
+  pub inner-last : firstOf C row column + 2 * C + 2 < R * C
+  inner-last =
+      let above = i .above in
+      let below = i .below in
+      let before = i .before in
+      let after = i .after in
+      let m : (row - 1 + 2) * C ≡ (row - 1) * C + 2 * C = add-mul (row - 1) 2 C in
+      let l = cell-lt R C (row - 1 + 2) (column - 1 + 2) (omega arith) (omega arith) in
+      omega arith

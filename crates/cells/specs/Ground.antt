@@ -2,12 +2,12 @@
 use mathlib.Core.Path.{_≡_}
 use mathlib.Core.Bool.{Bool, true, _&&_}
 use mathlib.Core.List.{List, [], _∷_}
-use Prim.Native.Nat.{ℕ, _+_, _*_, _<_, _≤_}
-use lib.Dec.{ltb, eqb}
+use Prim.Native.Nat.{ℕ, _+_, _*_, _/_, _%_, _<_, _≤_}
+use lib.Dec.{leb, ltb, eqb}
 use lib.ListN.{length, getD}
 use lib.IntN.{ℤ, pos}
-use Rattle.rules.specs.Words.{bit}
-use Rattle.rules.specs.Grid.{around}
+use Rattle.rules.specs.Words.{bit, count}
+use Rattle.rules.specs.Grid.{ninth, around}
 use Rattle.rules.specs.Board.{faceAt, valueOk}
 use Rattle.rules.specs.Lent.{workRoom}
 use Rattle.rules.specs.Opening.{closedAt}
@@ -47,6 +47,18 @@ abbrev pub Below : ℕ → List ℕ → Type 0
 Below n [] = Unit {0}
 Below n (x ∷ st) = (x < n) × Below n st
 
+-- the cell has all its eight neighbours
+abbrev pub isInner : ℕ → ℕ → ℕ → ℕ → Bool
+isInner R C row column = leb 1 row && (ltb (row + 1) R && (leb 1 column && ltb (column + 1) C))
+
+-- the k-th of the eight cells around the middle of nine: the first of the nine is q, and a row lower is C further on
+abbrev pub ringAt : ℕ → ℕ → ℕ → ℕ
+ringAt C q k = q + ninth k / 3 * C + ninth k % 3
+
+-- how many of these pass a test
+abbrev pub ring : ℕ → (ℕ → Bool) → ℕ → ℕ
+ring C p q = count (λ k. p (ringAt C q k)) 8
+
 -- a cell of the board with a face; 15 for the mines, 0 for the 0 cells
 abbrev pub faceIs : List ℤ → ℕ → ℕ → Bool
 faceIs B f q = ltb q (length B) && eqb (faceAt B q) f
@@ -60,4 +72,3 @@ pub record Saw (shown : List ℕ) (q : ℕ) (past r : Around) : Type 0 where
 pub record SeenAround (shown : List ℕ) (R C i : ℕ) (r : Around) : Type 0 where
   pub flag : r .flags ≡ around R C (flagAt shown) i
   pub close : r .closed ≡ around R C (closedAt shown) i
-  pub few : r .flags + r .closed ≤ 8

@@ -2,12 +2,13 @@
 // A cell is given by its row and column, which its caller takes apart once. The contracts cite rules' Grid and Board, and specs/Ground.
 ghost use mathlib.Core.Path.{_≡_};
 ghost use mathlib.Core.List.{_++_};
-ghost use Prim.Native.Nat.{_+_, _*_, _/_, _%_, _<_, _≤_};
-ghost use lib.ListN.{length, drop, replicate};
+ghost use Prim.Native.Nat.{ℕ, _+_, _*_, _/_, _%_, _<_, _≤_};
+ghost use lib.Dec.{eqb};
+ghost use lib.ListN.{length, getD, drop, replicate};
 ghost use Rattle.rules.specs.Words.{bit};
 ghost use Rattle.rules.specs.Grid.{cellOf, ninth, cellBefore, around};
 ghost use Rattle.rules.specs.Board.{faceAt};
-ghost use Rattle.cells.specs.Ground.{Sized, Valued, faceIs, Saw, SeenAround};
+ghost use Rattle.cells.specs.Ground.{Sized, Valued, Mined, isInner, ringAt, ring, faceIs, Saw, SeenAround};
 
 // Place 4 of nine is the cell itself.
 fn ninth_of(k: usize) -> usize
@@ -51,6 +52,24 @@ pub fn neighbour_at(rows: usize, columns: usize, row: usize, column: usize, k: u
     cell_before(rows, columns, row + j / 3, column + j % 3)
 }
 
+// The cell has all its eight neighbours.
+fn is_inner(rows: usize, columns: usize, row: usize, column: usize) -> bool
+    requires { ⌜ (row < rows) × (column < columns) ⌝ }
+    ensures { λ r. ⌜ r ≡ isInner rows columns row column ⌝ }
+{
+    (1 <= row) & ((row + 1 < rows) & ((1 <= column) & (column + 1 < columns)))
+}
+
+// The k-th of the eight cells around the middle of nine: the first of the nine is given, and a row lower is `columns` further on.
+fn ring_at(columns: usize, first: usize, k: usize) -> usize
+    requires { ⌜ (columns ≤ 64) × (first ≤ 2048) ⌝ }
+    requires { ⌜ k < 8 ⌝ }
+    ensures { λ r. ⌜ r ≡ ringAt columns first k ⌝ }
+{
+    let j = ninth_of(k);
+    first + j / 3 * columns + j % 3
+}
+
 // What a cell shows once it is open: its number, or 15 for a mine.
 pub fn face_at(mines: &[i8], cell: usize) -> u8
     requires { ⌜ cell < length (now mines) ⌝ }
@@ -68,6 +87,16 @@ pub fn face_at(mines: &[i8], cell: usize) -> u8
 pub struct Around {
     pub flags: u8,
     pub closed: u8,
+}
+
+// 1 for yes, 0 for no.
+fn bit_of(b: bool) -> u8
+    ensures { λ r. ⌜ (r ≡ bit b) × (r ≤ 1) ⌝ }
+{
+    if b {
+        return 1;
+    }
+    0
 }
 
 // One neighbour more is looked at; off the board nothing is shown.
@@ -94,8 +123,8 @@ fn see(shown: &[u8], q: usize, past: Around) -> Around
     past
 }
 
-// The flags and the closed cells around a cell.
-pub fn shown_around(shown: &[u8], rows: usize, columns: usize, row: usize, column: usize) -> Around
+// The flags and the closed cells around a cell, each place tested for being on the board.
+fn edge_around(shown: &[u8], rows: usize, columns: usize, row: usize, column: usize) -> Around
     requires { ⌜ Sized rows columns ⌝ }
     requires { ⌜ (row < rows) × (column < columns) ⌝ }
     ensures { λ r. ⌜ SeenAround (now (shown .entry)) rows columns (cellOf columns row column) r ⌝ }
@@ -109,6 +138,38 @@ pub fn shown_around(shown: &[u8], rows: usize, columns: usize, row: usize, colum
         seen = see(shown, q, seen);
     }
     seen
+}
+
+// How many of the eight cells around the middle of nine show v: no place is tested, and there is no branch.
+pub fn ring_shows(shown: &[u8], columns: usize, first: usize, v: u8) -> u8
+    requires { ⌜ columns ≤ 64 ⌝ }
+    requires { ⌜ first + 2 * columns + 2 < length (now shown) ⌝ }
+    requires { ⌜ length (now shown) ≤ 2048 ⌝ }
+    ensures { λ r. ⌜ r ≡ ring columns (λ (q : ℕ). eqb (getD (now (shown .entry)) q 0) v) first ⌝ }
+{
+    let mut n: u8 = 0;
+    for k in 0..8 {
+        let q = ring_at(columns, first, k);
+        let one = bit_of(shown[q] == v);
+        n += one;
+    }
+    n
+}
+
+// The flags and the closed cells around a cell.
+pub fn shown_around(shown: &[u8], rows: usize, columns: usize, row: usize, column: usize) -> Around
+    requires { ⌜ Sized rows columns ⌝ }
+    requires { ⌜ (row < rows) × (column < columns) ⌝ }
+    requires { ⌜ length (now shown) ≡ rows * columns ⌝ }
+    ensures { λ r. ⌜ SeenAround (now (shown .entry)) rows columns (cellOf columns row column) r ⌝ }
+{
+    if is_inner(rows, columns, row, column) {
+        let first = (row - 1) * columns + (column - 1);
+        let flags = ring_shows(shown, columns, first, 11);
+        let closed = ring_shows(shown, columns, first, 10);
+        return Around { flags, closed };
+    }
+    edge_around(shown, rows, columns, row, column)
 }
 
 // 1 for a cell of the board whose face is f, else 0.
@@ -125,15 +186,8 @@ fn has_face(mines: &[i8], q: usize, f: u8) -> u8
     0
 }
 
-// How many neighbours of a cell have the face f: 15 for mines, 0 for the 0 cells.
-pub fn faces_around(
-    mines: &[i8],
-    rows: usize,
-    columns: usize,
-    row: usize,
-    column: usize,
-    f: u8,
-) -> u8
+// How many neighbours of a cell have the face f, each place tested for being on the board.
+fn edge_faces(mines: &[i8], rows: usize, columns: usize, row: usize, column: usize, f: u8) -> u8
     requires { ⌜ Sized rows columns ⌝ }
     requires { ⌜ (row < rows) × (column < columns) ⌝ }
     requires { ⌜ Valued (now mines) ⌝ }
@@ -146,6 +200,44 @@ pub fn faces_around(
         n += one;
     }
     n
+}
+
+// How many of the eight around the middle of nine have the face f.
+fn ring_faces(mines: &[i8], columns: usize, first: usize, f: u8) -> u8
+    requires { ⌜ columns ≤ 64 ⌝ }
+    requires { ⌜ first + 2 * columns + 2 < length (now mines) ⌝ }
+    requires { ⌜ length (now mines) ≤ 2048 ⌝ }
+    requires { ⌜ Valued (now mines) ⌝ }
+    ensures { λ r. ⌜ (r ≡ ring columns (faceIs (now (mines .entry)) f) first) × (r ≤ 8) ⌝ }
+{
+    let mut n: u8 = 0;
+    for k in 0..8 {
+        let q = ring_at(columns, first, k);
+        let face = face_at(mines, q);
+        let one = bit_of(face == f);
+        n += one;
+    }
+    n
+}
+
+// How many neighbours of a cell have the face f: 15 for mines, 0 for the 0 cells.
+pub fn faces_around(
+    mines: &[i8],
+    rows: usize,
+    columns: usize,
+    row: usize,
+    column: usize,
+    f: u8,
+) -> u8
+    requires { ⌜ Mined (now mines) rows columns ⌝ }
+    requires { ⌜ (row < rows) × (column < columns) ⌝ }
+    ensures { λ r. ⌜ (r ≡ around rows columns (faceIs (now (mines .entry)) f) (cellOf columns row column)) × (r ≤ 8) ⌝ }
+{
+    if is_inner(rows, columns, row, column) {
+        let first = (row - 1) * columns + (column - 1);
+        return ring_faces(mines, columns, first, f);
+    }
+    edge_faces(mines, rows, columns, row, column, f)
 }
 
 // ---- lent lists ------------------------------------------------------------------------------------------------------------------------

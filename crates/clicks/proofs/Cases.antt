@@ -1,19 +1,18 @@
 -- One equation for each way through the win test, the right click's parts and the test of a chord. The functions' proofs cite these.
-use mathlib.Core.Path.{_≡_, ap, sym, _∙_}
+use mathlib.Core.Path.{_≡_, sym, _∙_}
 use mathlib.Core.Bool.{Bool, true, false}
 use mathlib.Core.List.{List}
-use Prim.Native.Nat.{ℕ, _/_, _%_, _<_, _≤_}
+use Prim.Native.Nat.{ℕ, _<_, _≤_}
 use native.Mathlib.Omega.{arith}
 use borrow.Author.Tests.{lt-ltb, le-ltb, eq-eqb, ne-eqb}
 use lib.Dec.{ltb}
 use lib.ListN.{getD, set}
 use lib.IntN.{ℤ}
-use Rattle.rules.specs.Grid.{cellOf, around}
+use Rattle.rules.specs.Grid.{around}
 use Rattle.rules.specs.Board.{faceAt}
 use Rattle.rules.specs.Lent.{bitAt, withBit}
 use Rattle.rules.specs.Opening.{closedAt}
 use Rattle.rules.specs.Clicks.{Desk, done, showing, bitsWith, addsRce, unflagged, takeBack, flagAt, chordIsUseful}
-use Rattle.cells.proofs.Grid.{cell-back}
 use Rattle.clicks.specs.Room.{Marked}
 
 -- ---- right -----------------------------------------------------------------------------------------------------------------------------
@@ -52,14 +51,11 @@ module _ (R C : ℕ) (shown : List ℕ) (i : ℕ) where
   unfolding chordIsUseful
   useful-eight h = simp (le-ltb _ _ h)
 
-  module _ (f : ℕ) (flags : f ≡ around R C (flagAt shown) (cellOf C (i / C) (i % C))) (small : getD shown i 0 < 8) where
-    flags-here : f ≡ around R C (flagAt shown) i
-    flags-here = flags ∙ ap (around R C (flagAt shown)) (cell-back C i)
-
+  module _ (f : ℕ) (flags : f ≡ around R C (flagAt shown) i) (small : getD shown i 0 < 8) where
     pub useful-flags : (f ≡ getD shown i 0 → ⊥) → false ≡ chordIsUseful R C shown i
     unfolding chordIsUseful
-    useful-flags n = simp (lt-ltb _ _ small, ne-eqb _ _ (λ e. n (flags-here ∙ e)))
+    useful-flags n = simp (lt-ltb _ _ small, ne-eqb _ _ (λ e. n (flags ∙ e)))
 
-    pub useful-closed : f ≡ getD shown i 0 → (n : ℕ) → n ≡ around R C (closedAt shown) (cellOf C (i / C) (i % C)) → ltb 0 n ≡ chordIsUseful R C shown i
+    pub useful-closed : f ≡ getD shown i 0 → (n : ℕ) → n ≡ around R C (closedAt shown) i → ltb 0 n ≡ chordIsUseful R C shown i
     unfolding chordIsUseful
-    useful-closed e n c = simp (lt-ltb _ _ small, eq-eqb _ _ (sym flags-here ∙ e), c, cell-back C i)
+    useful-closed e n c = simp (lt-ltb _ _ small, eq-eqb _ _ (sym flags ∙ e), c)

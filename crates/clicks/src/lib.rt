@@ -6,6 +6,7 @@ ghost use mathlib.Core.List.{List, [], _∷_};
 ghost use Prim.Native.Nat.{ℕ, _*_, _/_, _<_, _≤_};
 ghost use lib.ListN.{length, getD};
 ghost use Rattle.rules.specs.Words.{pick, bit, stackOf};
+ghost use Rattle.rules.specs.Grid.{cellOf};
 ghost use Rattle.rules.specs.Board.{faceAt};
 ghost use Rattle.rules.specs.Opening.{closedAt};
 ghost use Rattle.rules.specs.Clicks.{desk, done, doneAt, isWon, ended, solvesLeft, leftClick, flagged, takeBack, chordIsUseful, closedAround, chordCounts, performChord};
@@ -331,21 +332,31 @@ pub fn take_back(p: Position, shown: &mut [u8], cell: usize) -> Played
 // ---- chord -----------------------------------------------------------------------------------------------------------------------------
 
 // A shown 8 is never chorded; needed: flags around equal the number, and a neighbour shows 10.
-pub fn chord_is_useful(shown: &[u8], rows: usize, columns: usize, cell: usize) -> bool
+pub fn useful_at(shown: &[u8], rows: usize, columns: usize, row: usize, column: usize) -> bool
     requires { ⌜ Sized rows columns ⌝ }
-    requires { ⌜ cell < length (now shown) ⌝ }
-    requires { ⌜ cell < rows * columns ⌝ }
-    ensures { λ r. ⌜ r ≡ chordIsUseful rows columns (now (shown .entry)) cell ⌝ }
+    requires { ⌜ (row < rows) × (column < columns) ⌝ }
+    requires { ⌜ length (now shown) ≡ rows * columns ⌝ }
+    ensures { λ r. ⌜ r ≡ chordIsUseful rows columns (now (shown .entry)) (cellOf columns row column) ⌝ }
 {
-    let v = shown[cell];
+    let v = shown[row * columns + column];
     if 8 <= v {
         return false;
     }
-    let seen = cells::shown_around(shown, rows, columns, cell / columns, cell % columns);
+    let seen = cells::shown_around(shown, rows, columns, row, column);
     if seen.flags != v {
         return false;
     }
     0 < seen.closed
+}
+
+// The same, from a cell's number.
+fn chord_is_useful(shown: &[u8], rows: usize, columns: usize, cell: usize) -> bool
+    requires { ⌜ Sized rows columns ⌝ }
+    requires { ⌜ length (now shown) ≡ rows * columns ⌝ }
+    requires { ⌜ cell < rows * columns ⌝ }
+    ensures { λ r. ⌜ r ≡ chordIsUseful rows columns (now (shown .entry)) cell ⌝ }
+{
+    useful_at(shown, rows, columns, cell / columns, cell % columns)
 }
 
 // One cell more, if it shows 10.

@@ -2,11 +2,11 @@
 use mathlib.Core.Path.{_≡_, refl, ap, ap₂, sym, _∙_, subst⁻¹}
 use mathlib.Core.Bool.{Bool, true, false, _&&_}
 use mathlib.Core.List.{List, []}
-use Prim.Native.Nat.{ℕ, zero, suc, _+_, _*_, _<_, _≤_}
+use Prim.Native.Nat.{ℕ, zero, suc, _+_, _-_, _*_, _<_, _≤_}
 use native.Mathlib.Omega.{arith}
 use native.Mathlib.Numerals.{add-one}
-use borrow.Author.Tests.{le-ltb, eq-eqb, ne-eqb}
-use lib.ListN.{length, getD}
+use borrow.Author.Tests.{eq-eqb, ne-eqb}
+use lib.ListN.{length}
 use lib.IntN.{ℤ}
 use Rattle.rules.specs.declared.Settings.{Settings}
 use Rattle.rules.specs.declared.Position.{Position}
@@ -14,7 +14,7 @@ use Rattle.rules.specs.declared.Played.{Played}
 use Rattle.rules.specs.Words.{bit, rounds}
 use Rattle.rules.specs.States.{isPlaying}
 use Rattle.rules.specs.Lent.{workRoom}
-use Rattle.rules.specs.Clicks.{Desk, Play, desk, done, cellsOf, chordIsUseful, performChord}
+use Rattle.rules.specs.Clicks.{Desk, Play, desk, done, rowsOf, columnsOf, cellsOf, chordIsUseful, performChord}
 use Rattle.rules.specs.Passes.{Scan, noted, chordOne, chordScan, chordRound, chordMore, chordPass}
 use Rattle.cells.specs.Ground.{Valued, Fitting, Zeros}
 use Rattle.cells.proofs.Words.{and-left, bit-le, rounds-keep, Looping, left, looping-start, looping-turn, looping-less, looping-done}
@@ -23,6 +23,7 @@ use Rattle.clicks.specs.Room.{Laid, Roomy, closedIn, Acts, Fell, idle, fell}
 use Rattle.clicks.proofs.Ends.{chord-idle}
 use Rattle.clicks.proofs.Chord.{chord-fell}
 use Rattle.passes.specs.declared.Scanned.{Scanned}
+use Rattle.passes.specs.Seeking.{First}
 use Rattle.passes.specs.Passing.{yes, scan, Scans}
 
 -- ---- a desk of the game that was laid ------------------------------------------------------------------------------------------------------
@@ -80,13 +81,19 @@ module _ (B : List ℤ) (i : ℕ) (s : Scan) where
       go true h = one-plays h ∙ noted-none s (performChord B i (s .desk)) (ap (λ (o : Play). o .answer) e)
       go false h = one-over h
 
--- a cell that shows 8 or more is no chord
-high-idle : (R C : ℕ) (shown : List ℕ) (i : ℕ) → 8 ≤ getD shown i 0 → chordIsUseful R C shown i ≡ false
-unfolding chordIsUseful
-high-idle R C shown i h = rw (le-ltb _ _ h)
+-- a cell that is not useful is left alone
+pub one-useless : (B : List ℤ) (i : ℕ) (s : Scan) → chordIsUseful (rowsOf (s .desk)) (columnsOf (s .desk)) (s .desk .shown) i ≡ false → chordOne B i s ≡ s
+one-useless B i s e = one-idle B i s (chord-idle B i (s .desk) e)
 
-pub one-high : (B : List ℤ) (i : ℕ) (s : Scan) → 8 ≤ getD (s .desk .shown) i 0 → chordOne B i s ≡ s
-one-high B i s h = one-idle B i s (chord-idle B i (s .desk) (high-idle _ _ (s .desk .shown) i h))
+-- and so are many in a row
+pub scan-over : (B : List ℤ) (s x : Scan) (n m : ℕ) → chordScan B n s ≡ x → ((j : ℕ) → n ≤ j → j < n + m → chordOne B j x ≡ x) → chordScan B (n + m) s ≡ x
+unfolding chordScan
+scan-over B s x n zero e h = let z : n + 0 ≡ n = omega arith in ap (λ (k : ℕ). chordScan B k s) z ∙ e
+scan-over B s x n (suc m) e h =
+    let z : n + suc m ≡ suc (n + m) = omega arith in
+    ap (λ (k : ℕ). chordScan B k s) z
+    ∙ ap (chordOne B (n + m)) (scan-over B s x n m e (λ j l k. h j l (omega arith)))
+    ∙ h (n + m) (omega arith) (omega arith)
 
 -- the code's chord, from its answer
 module _ (B : List ℤ) (v : Valued B) (i : ℕ) (s : Scanned) (shown shown′ w w′ : List ℕ) (o : Played) (long : length shown ≡ s .position .settings .rows * s .position .settings .columns)
@@ -178,6 +185,22 @@ module _ (B : List ℤ) (t₀ : Scanned) (shown₀ w₀ : List ℕ) (l : Laid B 
   pub scanning-turn : (t′ : Scanned) (shown′ w′ : List ℕ) → Scans (λ bits. chordOne B i (scan t shown bits)) w t′ shown′ w′ → Scanning B t₀ shown₀ w₀ t′ shown′ w′ (i + 1)
   unfolding chordScan
   scanning-turn t′ shown′ w′ e = record { same = λ bits. rw add-one (e .outcome bits ∙ ap (chordOne B i) (g .same bits)); back = e .same ∙ g .back }
+
+  -- the cells up to the next useful one are passed over
+  pub scanning-over : (r : ℕ) → First (chordIsUseful (t₀ .position .settings .rows) (t₀ .position .settings .columns) shown) i (t₀ .position .settings .rows * t₀ .position .settings .columns) r
+      → Scanning B t₀ shown₀ w₀ t shown w r
+  scanning-over r f =
+      let up = f .up in
+      let e : i + (r - i) ≡ r = omega arith in
+      record {
+        same = λ bits.
+            sym (scan-over B (scan t₀ shown₀ bits) (scan t shown bits) i (r - i) (sym (g .same bits))
+            (λ j l k.
+            one-useless B j (scan t shown bits)
+            (ap (λ (st : Settings). chordIsUseful (st .rows) (st .columns) shown j) (scanning-sits .settings) ∙ f .none j l (omega arith))))
+            ∙ ap (λ (n : ℕ). chordScan B n (scan t₀ shown₀ bits)) e;
+        back = g .back;
+      }
 
   pub scanning-done : (s : Scanned) → i ≡ s .position .settings .rows * s .position .settings .columns → t₀ ≡ record { position = s .position; any = false; ever = s .ever }
       → Scans (λ bits. chordRound B (scan s shown₀ bits)) w₀ t shown w

@@ -22,12 +22,8 @@ rem-faces-around c = search needs
 
 faces-around-requires : tie.Need-faces-around-requires
 faces-around-requires c κs = (
-  c .before .before .before .before .pre .0 .sized,
-  (
-    on-grid _ _ _ (c .before .before .before .before .pre .0 .sized .column)
-        (c .before .before .before .before .pre .1),
-    c .before .before .before .before .pre .0 .valued,
-  ),
+  c .before .before .before .before .pre .0,
+  on-grid _ _ _ (c .before .before .before .before .pre .0 .sized .column) (c .before .before .before .before .pre .1),
 )
 
 cast-mines : tie.Need-cast-mines

@@ -27,7 +27,7 @@ returns c =
     number-mine (a .mines .now) (a .rows) (a .columns) _ (sym (c .before .face-at .ensures) ∙ c .if1 .taken)
 
 faces-around-requires : tie.Need-faces-around-requires
-faces-around-requires c κs = (c .before .before .pre .0 .sized, (c .before .before .pre .1, c .before .before .pre .0 .valued))
+faces-around-requires c κs = (c .before .before .pre .0, c .before .before .pre .1)
 
 returns-2 : tie.Need-returns-2
 returns-2 c =

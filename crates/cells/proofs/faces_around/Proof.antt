@@ -1,59 +1,49 @@
--- `cells::faces_around` meets its contract.
-use Prim.Native.Nat.{ℕ, _+_, _≤_, _-_}
-use mathlib.Core.Path.{_≡_, refl, ap}
+-- `cells::faces_around` meets its contract: an inner cell by its ring, any other place by place.
 use borrow.Author.Needs.{needs}
 use native.Mathlib.Omega.{arith}
-use Rattle.cells.proofs.Words.{is-bit}
-use Rattle.rules.specs.Words.{count}
-use Rattle.rules.specs.Grid.{cellOf, neighbour}
+use mathlib.Core.Path.{sym, _∙_}
 use Rattle.cells.specs.Ground.{faceIs}
-use Rattle.cells.proofs.Grid.{around-turn, around-done}
+use Rattle.cells.proofs.Grid.{inner-test, inner-around, inner-last}
 use Rattle.cells.proofs.faces_around.Statement.{statement}
 use Rattle.cells.proofs.faces_around.Tie as tie
 
-abbrev Inv-loop : tie.InvT-loop
-Inv-loop mines rows columns row column f n₀ k₀ n k = (k ≤ 8) × (n ≡ count (λ j. faceIs mines f (neighbour rows columns (cellOf columns row column) j)) k) × (n ≤ k)
+is-inner-requires : tie.Need-is-inner-requires
+is-inner-requires c κs = search needs
 
-abbrev μ-loop : tie.MeasureT-loop
-μ-loop mines rows columns row column f n₀ k₀ n k = 8 - k
+sub-first : tie.Need-sub-first
+sub-first c = let i = inner-test (c .before .before .args .rows) (c .before .before .args .columns) (c .before .before .args .row) (c .before .before .args .column) (sym (c .before .is-inner .ensures) ∙ c .if1 .taken) in omega (arith, i .above)
 
-loop-holds : tie.Need-loop-holds Inv-loop μ-loop
-unfolding count
-loop-holds c = (omega arith, refl, omega arith)
+mul-first : tie.Need-mul-first
+mul-first c = let i = inner-test (c .before .before .args .rows) (c .before .before .args .columns) (c .before .before .args .row) (c .before .before .args .column) (sym (c .before .is-inner .ensures) ∙ c .if1 .taken) in omega (arith, inner-last (c .before .before .args .rows) (c .before .before .args .columns) (c .before .before .args .row) (c .before .before .args .column) i, c .before .before .pre .0 .sized .cells)
 
-neighbour-at-requires : tie.Need-neighbour-at-requires Inv-loop μ-loop
-neighbour-at-requires c κs = search needs
+sub-first-2 : tie.Need-sub-first-2
+sub-first-2 c = let i = inner-test (c .before .before .args .rows) (c .before .before .args .columns) (c .before .before .args .row) (c .before .before .args .column) (sym (c .before .is-inner .ensures) ∙ c .if1 .taken) in omega (arith, i .before)
 
-has-face-requires : tie.Need-has-face-requires Inv-loop μ-loop
-has-face-requires c κs = search needs
+add-first : tie.Need-add-first
+add-first c = let i = inner-test (c .before .before .args .rows) (c .before .before .args .columns) (c .before .before .args .row) (c .before .before .args .column) (sym (c .before .is-inner .ensures) ∙ c .if1 .taken) in omega (arith, inner-last (c .before .before .args .rows) (c .before .before .args .columns) (c .before .before .args .row) (c .before .before .args .column) i, c .before .before .pre .0 .sized .cells)
 
-add-n : tie.Need-add-n Inv-loop μ-loop
-add-n c = let b : c .has-face .result ≤ 1 = is-bit (faceIs (c .before .before .before .before .args .mines .now) (c .before .before .before .before .args .f) (c .before .neighbour-at .result)) (c .has-face .ensures) in omega arith
+ring-faces-requires : tie.Need-ring-faces-requires
+ring-faces-requires c κs = let i = inner-test (c .before .before .args .rows) (c .before .before .args .columns) (c .before .before .args .row) (c .before .before .args .column) (sym (c .before .is-inner .ensures) ∙ c .if1 .taken) in let l = inner-last (c .before .before .args .rows) (c .before .before .args .columns) (c .before .before .args .row) (c .before .before .args .column) i in (c .before .before .pre .0 .sized .columns64, (omega (arith, c .before .before .pre .0 .long), (omega (arith, c .before .before .pre .0 .long, c .before .before .pre .0 .sized .cells), c .before .before .pre .0 .valued)))
 
-add-k : tie.Need-add-k Inv-loop μ-loop
-add-k c = omega arith
+returns : tie.Need-returns
+returns c = let i = inner-test (c .before .before .before .args .rows) (c .before .before .before .args .columns) (c .before .before .before .args .row) (c .before .before .before .args .column) (sym (c .before .before .is-inner .ensures) ∙ c .before .if1 .taken) in (c .ring-faces .ensures .0 ∙ sym (inner-around _ _ _ _ i (faceIs (c .before .before .before .args .mines .now) (c .before .before .before .args .f))), c .ring-faces .ensures .1)
 
-loop-less : tie.Need-loop-less Inv-loop μ-loop
-loop-less c = omega arith
+edge-faces-requires : tie.Need-edge-faces-requires
+edge-faces-requires c κs = (c .before .before .pre .0 .sized, (c .before .before .pre .1, c .before .before .pre .0 .valued))
 
-loop-again : tie.Need-loop-again Inv-loop μ-loop
-loop-again c = let b : c .has-face .result ≤ 1 = is-bit (faceIs (c .before .before .before .before .args .mines .now) (c .before .before .before .before .args .f) (c .before .neighbour-at .result)) (c .has-face .ensures) in let a = (c .before .before .before .before .args) in
-    (omega arith, around-turn (a .rows) (a .columns) (a .row) (a .column) (faceIs (a .mines .now) (a .f)) _ _ _ _ (c .before .before .before .before .pre .1 .0 .1) (c .before .neighbour-at .ensures) (c .before .before .before .loop .inv .1) (ap (λ (x : ℕ). c .before .before .before .loop .n + x) (c .has-face .ensures)), omega arith)
-
-returns : tie.Need-returns Inv-loop μ-loop
-returns c = let a = (c .before .before .args) in (around-done (a .rows) (a .columns) _ (faceIs (a .mines .now) (a .f)) _ _ (omega arith) (c .before .loop .inv .1), omega arith)
+returns-2 : tie.Need-returns-2
+returns-2 c = search needs
 
 pub faces-around-spec : {M : Type 1} → statement M
 faces-around-spec =
     tie.close
     (tie.spec
-    Inv-loop
-    μ-loop
-    loop-holds
-    neighbour-at-requires
-    has-face-requires
-    add-n
-    add-k
-    loop-less
-    loop-again
-    returns)
+    is-inner-requires
+    sub-first
+    mul-first
+    sub-first-2
+    add-first
+    ring-faces-requires
+    returns
+    edge-faces-requires
+    returns-2)

@@ -1,65 +1,57 @@
--- `cells::shown_around` meets its contract.
-use Prim.Native.Nat.{_≤_, _-_, _+_}
-use mathlib.Core.Path.{_≡_, refl}
+-- `cells::shown_around` meets its contract: an inner cell by its ring, any other place by place.
 use borrow.Author.Needs.{needs}
 use native.Mathlib.Omega.{arith}
-use lib.ListN.{getD}
-use Rattle.rules.specs.Words.{count}
-use Rattle.rules.specs.Grid.{cellOf, neighbour}
+use mathlib.Core.Path.{sym, _∙_}
 use Rattle.rules.specs.Opening.{closedAt}
 use Rattle.rules.specs.Clicks.{flagAt}
-use Rattle.cells.proofs.Grid.{around-turn, around-done}
-use Rattle.cells.proofs.Face.{flag-or-closed}
+use Rattle.cells.proofs.Grid.{inner-test, inner-around, inner-last}
 use Rattle.cells.proofs.shown_around.Statement.{statement}
 use Rattle.cells.proofs.shown_around.Tie as tie
 
-abbrev Inv-loop : tie.InvT-loop
-Inv-loop shown rows columns row column seen₀ k₀ seen k = (k ≤ 8) × (seen .flags ≡ count (λ j. flagAt shown (neighbour rows columns (cellOf columns row column) j)) k) × (seen .closed ≡ count (λ j. closedAt shown (neighbour rows columns (cellOf columns row column) j)) k) × (seen .flags + seen .closed ≤ k)
+is-inner-requires : tie.Need-is-inner-requires
+is-inner-requires c κs = search needs
 
-abbrev μ-loop : tie.MeasureT-loop
-μ-loop shown rows columns row column seen₀ k₀ seen k = 8 - k
+sub-first : tie.Need-sub-first
+sub-first c = let i = inner-test (c .before .before .before .args .rows) (c .before .before .before .args .columns) (c .before .before .before .args .row) (c .before .before .before .args .column) (sym (c .before .is-inner .ensures) ∙ c .if1 .taken) in omega (arith, i .above)
 
-loop-holds : tie.Need-loop-holds Inv-loop μ-loop
-unfolding count
-loop-holds c = (omega arith, refl, refl, omega arith)
+mul-first : tie.Need-mul-first
+mul-first c = let i = inner-test (c .before .before .before .args .rows) (c .before .before .before .args .columns) (c .before .before .before .args .row) (c .before .before .before .args .column) (sym (c .before .is-inner .ensures) ∙ c .if1 .taken) in omega (arith, inner-last (c .before .before .before .args .rows) (c .before .before .before .args .columns) (c .before .before .before .args .row) (c .before .before .before .args .column) i, c .before .before .before .pre .0 .cells)
 
-neighbour-at-requires : tie.Need-neighbour-at-requires Inv-loop μ-loop
-neighbour-at-requires c κs = search needs
+sub-first-2 : tie.Need-sub-first-2
+sub-first-2 c = let i = inner-test (c .before .before .before .args .rows) (c .before .before .before .args .columns) (c .before .before .before .args .row) (c .before .before .before .args .column) (sym (c .before .is-inner .ensures) ∙ c .if1 .taken) in omega (arith, i .before)
 
-see-requires : tie.Need-see-requires Inv-loop μ-loop
-see-requires c κs = search needs
+add-first : tie.Need-add-first
+add-first c = let i = inner-test (c .before .before .before .args .rows) (c .before .before .before .args .columns) (c .before .before .before .args .row) (c .before .before .before .args .column) (sym (c .before .is-inner .ensures) ∙ c .if1 .taken) in omega (arith, inner-last (c .before .before .before .args .rows) (c .before .before .before .args .columns) (c .before .before .before .args .row) (c .before .before .before .args .column) i, c .before .before .before .pre .0 .cells)
 
-add-k : tie.Need-add-k Inv-loop μ-loop
-add-k c = omega arith
+ring-shows-requires : tie.Need-ring-shows-requires
+ring-shows-requires c κs = let i = inner-test (c .before .before .before .args .rows) (c .before .before .before .args .columns) (c .before .before .before .args .row) (c .before .before .before .args .column) (sym (c .before .is-inner .ensures) ∙ c .if1 .taken) in let l = inner-last (c .before .before .before .args .rows) (c .before .before .before .args .columns) (c .before .before .before .args .row) (c .before .before .before .args .column) i in (c .before .before .before .pre .0 .columns64, (omega (arith, c .before .before .before .pre .1 .1), omega (arith, c .before .before .before .pre .1 .1, c .before .before .before .pre .0 .cells)))
 
-loop-less : tie.Need-loop-less Inv-loop μ-loop
-loop-less c = omega arith
+ring-shows-requires-2 : tie.Need-ring-shows-requires-2
+ring-shows-requires-2 c κs = let i = inner-test (c .before .before .before .before .args .rows) (c .before .before .before .before .args .columns) (c .before .before .before .before .args .row) (c .before .before .before .before .args .column) (sym (c .before .before .is-inner .ensures) ∙ c .before .if1 .taken) in let l = inner-last (c .before .before .before .before .args .rows) (c .before .before .before .before .args .columns) (c .before .before .before .before .args .row) (c .before .before .before .before .args .column) i in (c .before .before .before .before .pre .0 .columns64, (omega (arith, c .before .before .before .before .pre .1 .1), omega (arith, c .before .before .before .before .pre .1 .1, c .before .before .before .before .pre .0 .cells)))
 
-loop-again : tie.Need-loop-again Inv-loop μ-loop
-loop-again c = let a = (c .before .before .before .before .before .args) in (
-  omega arith,
-  around-turn (a .rows) (a .columns) (a .row) (a .column) (flagAt (a .shown .now)) _ _ _ _ (c .before .before .before .before .before .pre .1 .1) (c .before .neighbour-at .ensures) (c .before .before .before .loop .inv .1) (c .see .ensures .flag),
-  around-turn (a .rows) (a .columns) (a .row) (a .column) (closedAt (a .shown .now)) _ _ _ _ (c .before .before .before .before .before .pre .1 .1) (c .before .neighbour-at .ensures) (c .before .before .before .loop .inv .2) (c .see .ensures .close),
-  omega (arith, flag-or-closed (getD (a .shown .now) (c .before .neighbour-at .result) 0), c .see .ensures .flag, c .see .ensures .close),
-)
-
-returns : tie.Need-returns Inv-loop μ-loop
-returns c = let a = (c .before .before .before .args) in record {
-  flag = around-done (a .rows) (a .columns) _ (flagAt (a .shown .now)) _ _ (omega arith) (c .before .loop .inv .1);
-  close = around-done (a .rows) (a .columns) _ (closedAt (a .shown .now)) _ _ (omega arith) (c .before .loop .inv .2);
-  few = omega arith;
+returns : tie.Need-returns
+returns c = let i = inner-test (c .before .before .before .before .before .args .rows) (c .before .before .before .before .before .args .columns) (c .before .before .before .before .before .args .row) (c .before .before .before .before .before .args .column) (sym (c .before .before .before .is-inner .ensures) ∙ c .before .before .if1 .taken) in record {
+  flag = c .before .ring-shows .ensures ∙ sym (inner-around _ _ _ _ i (flagAt (c .before .before .before .before .before .args .shown .now)));
+  close = c .ring-shows2 .ensures ∙ sym (inner-around _ _ _ _ i (closedAt (c .before .before .before .before .before .args .shown .now)));
 }
+
+edge-around-requires : tie.Need-edge-around-requires
+edge-around-requires c κs = search needs
+
+returns-2 : tie.Need-returns-2
+returns-2 c = search needs
 
 pub shown-around-spec : {M : Type 1} → statement M
 shown-around-spec =
     tie.close
     (tie.spec
-    Inv-loop
-    μ-loop
-    loop-holds
-    neighbour-at-requires
-    see-requires
-    add-k
-    loop-less
-    loop-again
-    returns)
+    is-inner-requires
+    sub-first
+    mul-first
+    sub-first-2
+    add-first
+    ring-shows-requires
+    ring-shows-requires-2
+    returns
+    edge-around-requires
+    returns-2)

@@ -1,7 +1,9 @@
 -- `passes::ripe` meets its contract: its tests in the order of the definition.
 use native.Mathlib.Omega.{arith}
 use borrow.Author.Needs.{needs}
-use Rattle.cells.proofs.Grid.{cell-lt}
+use Rattle.rules.specs.Grid.{cellOf}
+use Rattle.rules.specs.Clicks.{flagAt}
+use Rattle.cells.proofs.Grid.{cell-lt, around-le}
 use Rattle.passes.proofs.Grows.{ripe-low, ripe-high, ripe-is}
 use Rattle.passes.proofs.ripe.Statement.{statement}
 use Rattle.passes.proofs.ripe.Tie as tie
@@ -25,7 +27,7 @@ shown-around-requires : tie.Need-shown-around-requires
 shown-around-requires c κs = search needs
 
 all-closed-requires : tie.Need-all-closed-requires
-all-closed-requires c κs = (omega arith, omega (arith, c .shown-around .ensures .few))
+all-closed-requires c κs = (omega arith, omega (arith, around-le (c .before .before .before .before .before .args .rows) (c .before .before .before .before .before .args .columns) (flagAt (c .before .before .before .before .before .args .shown .now)) (cellOf (c .before .before .before .before .before .args .columns) (c .before .before .before .before .before .args .row) (c .before .before .before .before .before .args .column)), c .shown-around .ensures .flag))
 
 returns-3 : tie.Need-returns-3
 returns-3 c = ripe-is _ _ _ _ _ _ (c .before .before .before .if1 .left) (c .before .before .if2 .left) (c .before .shown-around .ensures) (c .all-closed .ensures)
