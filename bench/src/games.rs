@@ -7,13 +7,13 @@ use std::ops::Range;
 
 const GAMES: u64 = 10;
 
-struct Size {
-    rows: usize,
-    columns: usize,
-    mines: usize,
+pub struct Size {
+    pub rows: usize,
+    pub columns: usize,
+    pub mines: usize,
 }
 
-const SIZES: [Size; 4] = [
+pub const SIZES: [Size; 4] = [
     Size { rows: 9, columns: 9, mines: 10 },
     Size { rows: 16, columns: 16, mines: 40 },
     Size { rows: 16, columns: 30, mines: 99 },

@@ -54,6 +54,21 @@ extern "C" {
         counts: *mut u32,
         counts_len: usize,
     ) -> u16;
+
+    fn bench_replay(
+        book: *const u8,
+        book_len: usize,
+        mines: *mut i8,
+        mines_len: usize,
+        shown: *mut u8,
+        shown_len: usize,
+        bits: *mut u8,
+        bits_len: usize,
+        work: *mut u16,
+        work_len: usize,
+        text: *mut u8,
+        text_len: usize,
+    ) -> usize;
 }
 
 /// Opens one cell; says whether a mine was hit. The work is all 0 before and after.
@@ -143,6 +158,43 @@ pub fn step(board: &Board, mode: u8, events: &[u8], lent: &mut Lent) -> u16 {
             lent.work.len(),
             lent.counts.as_mut_ptr(),
             lent.counts.len(),
+        )
+    }
+}
+
+/// What a book is played and printed in: room for the largest board and the longest printout.
+pub struct Rooms {
+    mines: Vec<i8>,
+    shown: Vec<u8>,
+    bits: Vec<u8>,
+    work: Vec<u16>,
+    pub text: Vec<u8>,
+}
+
+impl Rooms {
+    pub fn new() -> Rooms {
+        let (mines, shown, bits, work) = (vec![0; 2_048], vec![0; 2_048], vec![0; 256], vec![0; 16_392]);
+        Rooms { mines, shown, bits, work, text: vec![0; 172_184] }
+    }
+}
+
+/// The printout of a book, whose length is given.
+pub fn print_book(book: &[u8], rooms: &mut Rooms) -> usize {
+    // SAFETY: the slices are whole, and have the room that the contract asks for.
+    unsafe {
+        bench_replay(
+            book.as_ptr(),
+            book.len(),
+            rooms.mines.as_mut_ptr(),
+            rooms.mines.len(),
+            rooms.shown.as_mut_ptr(),
+            rooms.shown.len(),
+            rooms.bits.as_mut_ptr(),
+            rooms.bits.len(),
+            rooms.work.as_mut_ptr(),
+            rooms.work.len(),
+            rooms.text.as_mut_ptr(),
+            rooms.text.len(),
         )
     }
 }

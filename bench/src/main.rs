@@ -6,6 +6,20 @@ mod library;
 mod measure;
 mod opening;
 mod play;
+mod replay;
+
+// The oracle's printout, over the original as it is released.
+#[path = "../../oracle/src/board.rs"]
+#[allow(dead_code)]
+mod board;
+#[path = "../../oracle/src/book.rs"]
+#[allow(dead_code)]
+mod book;
+#[path = "../../oracle/src/game.rs"]
+#[allow(dead_code)]
+mod game;
+#[path = "../../oracle/src/printout.rs"]
+mod printout;
 
 use measure::Way;
 
@@ -20,4 +34,5 @@ fn main() {
     };
     opening::rows(way);
     games::rows(way);
+    replay::rows(way);
 }

@@ -1,0 +1,6 @@
+pub mod Bytes
+pub mod Unclear
+pub mod Making
+pub mod Outcomes
+pub mod Places
+pub mod Given

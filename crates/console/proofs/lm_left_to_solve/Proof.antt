@@ -1,0 +1,24 @@
+-- `console::lm_left_to_solve` meets its contract.
+use borrow.Author.Needs.{needs}
+use Rattle.console.proofs.Making.{left-flat}
+use Rattle.console.proofs.lm_left_to_solve.Statement.{statement}
+use Rattle.console.proofs.lm_left_to_solve.Tie as tie
+
+read-requires : tie.Need-read-requires
+read-requires c κs = search needs
+
+left-to-solve-requires : tie.Need-left-to-solve-requires
+left-to-solve-requires c κs = search needs
+
+answered-requires : tie.Need-answered-requires
+answered-requires c κs = search needs
+
+same-length : tie.Need-same-length
+same-length c = search needs
+
+returns : tie.Need-returns
+returns c = left-flat _ _ _ _ _ (c .before .before .before .before .before .read .ensures) _ _ (c .answered .ensures) _ _ (c .before .before .before .left-to-solve .ensures)
+
+pub lm-left-to-solve-spec : {M : Type 1} → statement M
+lm-left-to-solve-spec =
+    tie.close (tie.spec read-requires left-to-solve-requires answered-requires same-length returns)

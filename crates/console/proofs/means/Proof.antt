@@ -1,0 +1,12 @@
+-- `console::means` meets its contract.
+use mathlib.Core.Path.{refl}
+use Rattle.console.specs.Flat.{means}
+use Rattle.console.proofs.means.Statement.{statement}
+use Rattle.console.proofs.means.Tie as tie
+
+returns : tie.Need-returns
+unfolding means
+returns c = refl
+
+pub means-spec : {M : Type 1} → statement M
+means-spec = tie.close (tie.spec returns)

@@ -1,0 +1,13 @@
+-- `console::refused` meets its contract.
+use borrow.Author.Needs.{needs}
+use Rattle.console.proofs.refused.Statement.{statement}
+use Rattle.console.proofs.refused.Tie as tie
+
+wide-requires : tie.Need-wide-requires
+wide-requires c κs = search needs
+
+returns : tie.Need-returns
+returns c = simp (c .wide .ensures)
+
+pub refused-spec : {M : Type 1} → statement M
+refused-spec = tie.close (tie.spec wide-requires returns)

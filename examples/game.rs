@@ -1,0 +1,86 @@
+// Plays through the library from Rust, by the safe wrapper: document 01's book, which is won, with a display on another thread; a game that is
+// lost; and what is refused. Every outcome is held to what it must be.
+#[allow(dead_code)] // the wrapper offers more than this game needs
+mod liftmanger;
+
+use liftmanger::{Answer, Code, Game, GameState, MouseState, Pointer, Refusal, Settings, View};
+
+/// The display: it gets a view, and prints it.
+fn display(view: View<'_>) {
+    println!("{:?} {:?}, {} events, {} flags", view.game, view.mouse, view.events, view.flag);
+    for row in view.shown.chunks(usize::from(view.settings.columns)) {
+        let cells: Vec<String> = row.iter().map(u8::to_string).collect();
+        println!("{}", cells.join(" "));
+    }
+}
+
+fn by_hand(rows: u8, columns: u8) -> Settings {
+    Settings { rows, columns, mode: 0, question: false }
+}
+
+fn won() -> Result<(), Refusal> {
+    let mut game = Game::<3, 1, 32>::new(by_hand(1, 3), &[[0, 1]])?;
+    let fresh = game.view().settings;
+    assert!(game.over().is_none(), "the secrets of a game that runs");
+    let left = Pointer::Cell(0, 0);
+    assert_eq!(game.step(Code::Lc, left), Ok(Answer::Nothing));
+    assert_eq!(game.step(Code::Lr, left), Ok(Answer::Opened));
+    // Two cores: while the display's thread has the view, the game is not stepped; when it is done, the game is this thread's again.
+    std::thread::scope(|s| {
+        let view = game.view();
+        s.spawn(move || display(view));
+    });
+    game.step_flow(&[[2, 0, 1], [3, 0, 1], [0, 0, 2], [1, 0, 2]])?;
+    let view = game.view();
+    assert_eq!((view.game, view.mouse, view.events), (GameState::Win, MouseState::UpUp, 6));
+    assert_eq!((view.left, view.right, view.doubles, view.lce, view.dce, view.flag), (2, 1, 0, 2, 0, 1));
+    assert_eq!(view.shown, [1, 11, 1]);
+    display(view);
+    let over = game.over().expect("the game is over");
+    assert!(over.won);
+    assert_eq!((over.rce, over.solved_left, over.solved_chord), (1, 2, 0));
+    assert_eq!((over.total_3bv, over.left_to_solve), (2, 0));
+    assert_eq!(over.mines, [1, -1, 1]);
+    println!("bv {} {}, rce {}", over.total_3bv, over.left_to_solve, over.rce);
+    game.reset();
+    let view = game.view();
+    assert_eq!((view.game, view.events, view.settings), (GameState::Ready, 0, fresh));
+    assert_eq!(view.shown, [10; 3]);
+    Ok(())
+}
+
+fn lost() -> Result<(), Refusal> {
+    let mut game = Game::<9, 2, 80>::new(by_hand(3, 3), &[[2, 2]])?;
+    let (middle, corner) = (Pointer::Cell(1, 1), Pointer::Cell(2, 0));
+    game.step(Code::Lc, middle)?;
+    assert_eq!(game.step(Code::Lr, middle), Ok(Answer::Opened));
+    assert_eq!(game.step(Code::Rc, corner), Ok(Answer::Flagged));
+    game.step(Code::Rr, corner)?;
+    assert_eq!(game.step(Code::Mr, middle), Ok(Answer::Hit));
+    let view = game.view();
+    assert_eq!(view.game, GameState::Loss);
+    assert_eq!(view.shown, [0, 0, 0, 0, 1, 1, 14, 1, 15]);
+    display(view);
+    assert_eq!(game.over().map(|o| (o.won, o.solved_chord)), Some((false, 1)));
+    Ok(())
+}
+
+fn refused() -> Result<(), Refusal> {
+    assert_eq!(Game::<9, 2, 80>::new(by_hand(65, 3), &[]).err(), Some(Refusal(20)));
+    assert_eq!(Game::<9, 2, 80>::new(by_hand(3, 4), &[]).err(), Some(Refusal(21)));
+    assert_eq!(Game::<9, 2, 80>::new(by_hand(3, 3), &[[1, 1], [1, 1]]).err(), Some(Refusal(42)));
+    assert_eq!(Game::<9, 2, 80>::new(Settings { mode: 6, ..by_hand(3, 3) }, &[]).err(), Some(Refusal(25)));
+    let mut game = liftmanger::Expert::new(by_hand(16, 30), &[[0, 0], [15, 29]])?;
+    assert_eq!(game.step(Code::Lc, Pointer::Cell(16, 0)), Err(Refusal(30)));
+    assert_eq!(game.step(Code::Mv, Pointer::Off), Ok(Answer::Nothing));
+    assert_eq!(game.view().events, 1);
+    game.give_up();
+    assert_eq!(game.view().game, GameState::Loss);
+    Ok(())
+}
+
+fn main() -> Result<(), Refusal> {
+    won()?;
+    lost()?;
+    refused()
+}

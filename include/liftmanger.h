@@ -1,0 +1,227 @@
+/* Liftmanger: a minesweeper game's state, for C. Link with the archive that `./archive console ARCHIVE` builds; it needs memset, nothing else.
+ *
+ * Every function takes every input and returns. It answers 0 to 4, or a refusal: 20 and above. What each call does, to the byte, is proved
+ * (crates/console/specs/Promises.antt).
+ *
+ * What is lent. A call is lent buffers, each a pointer and then its number of elements, and keeps none of them:
+ *   mines  one signed byte for each cell, row by row: -1 for a mine, else its number 0 to 8   LM_CELLS
+ *   shown  one byte for each cell: what the player sees, enum lm_shown                        LM_CELLS
+ *   bits   one bit for each cell, "this mine was flagged before", lowest bit first            LM_BITS
+ *   work   16-bit numbers, with any contents; at least so many, the rest is not touched       LM_WORK
+ * The first three must have exactly these lengths. After an accepted call with work its first LM_WORK numbers are 0.
+ *
+ * What a caller owes, since no call can test it: a pointer points at as many elements as the length says, is not NULL, and a buffer that the
+ * call may write (one without const) overlaps no other.
+ *
+ * A refusal gives back the position exactly as given, the bytes that mean nothing too, with the value 0, and writes nothing lent. (A row of
+ * events that is refused at a later event keeps the steps before it.)
+ *
+ * One owner. The core that steps owns the position and all lent memory for the length of the call. Between calls the display may be handed the
+ * shown board, the states and the counts marked "may be shown", and nothing else: mines, bits and the secrets know what is hidden. */
+#ifndef LIFTMANGER_H
+#define LIFTMANGER_H
+
+#include <stddef.h>
+#include <stdint.h>
+
+#ifdef __cplusplus
+extern "C" {
+#endif
+
+/* ---- sizes ---- */
+
+#define LM_SIDE_MAX 64          /* rows and columns: 1 to 64 */
+#define LM_CELLS_MAX 2048       /* rows x columns: at most 2,048 */
+#define LM_EVENTS_MAX 65535     /* accepted events of a game */
+#define LM_BOOK_EVENTS_MAX 8192 /* events of a book */
+
+/* Elements of mines, and of shown. */
+#define LM_CELLS(rows, columns) ((size_t)(rows) * (size_t)(columns))
+/* Bytes of bits. */
+#define LM_BITS(rows, columns) ((LM_CELLS(rows, columns) + 7) / 8)
+/* 16-bit numbers of work, at least. */
+#define LM_WORK(rows, columns) (8 * LM_CELLS(rows, columns) + 8)
+/* The bytes of the longest book: 5 of settings, 2,047 mines, 8,192 events. */
+#define LM_BOOK_MAX (5 + (2 + 2 * 2047) + (2 + 3 * LM_BOOK_EVENTS_MAX))
+
+/* ---- the numbers that come back ---- */
+
+enum lm_number {
+    /* Answers. Every call but a step answers 0 where it accepts. */
+    LM_NOTHING = 0, /* accepted; of a step: the hand opened nothing and changed no flag */
+    LM_FLAGGED = 1, /* a flag or a question mark was set or taken away */
+    LM_OPENED = 2,  /* a left click opened a safe cell */
+    LM_CHORDED = 3, /* a chord opened cells, all safe */
+    LM_HIT = 4,     /* the click or the chord hit a mine: the game is lost. A game that an automatic pass loses keeps the hand's answer */
+
+    /* Refusals, in the order in which they are tested: a number is given exactly when no earlier one applies and */
+    LM_BAD_SIZE = 20,        /* a size is outside its limits */
+    LM_BAD_LENGTH = 21,      /* a buffer has the wrong length; a row of events ends in the middle of one; a mine list has an odd length */
+    LM_BAD_VALUE = 22,       /* a mine board value is outside -1 to 8 */
+    LM_BAD_COUNT = 23,       /* a safe cell's number is not its count of mine neighbours */
+    LM_NO_SAFE_CELL = 24,    /* no cell is safe */
+    LM_BAD_MODE = 25,        /* the mode is not allowed */
+    LM_UNLAWFUL = 26,        /* the position is not one that a game can have, or a state byte of it means nothing */
+    LM_BAD_POINTER = 30,     /* the pointer is neither a cell nor exactly (rows, columns) */
+    LM_TOO_MANY_EVENTS = 31, /* 65,535 events were accepted */
+    LM_BAD_PRE_FLAG = 32,    /* pf in Ready or PreFlaging, off the board or on a cell not showing 10 */
+    LM_BAD_EVENT = 33,       /* an event that the game state does not take, or an unknown code while the game runs */
+
+    /* Refusals of a book, at the place of the first fault; 20, 24 and 25 are given too. */
+    LM_BOOK_ENDS = 40,    /* the bytes end where more are due (place: the length) */
+    LM_BAD_SETTINGS = 41, /* the settings' count is not 4 (place 0), or question is not 0 or 1 (place 4) */
+    LM_BAD_MINE = 42,     /* a mine is off the board or not after the one before it; numbering from a mine list answers this too */
+    LM_LEFT_OVER = 43,    /* bytes are left over (the first) */
+    LM_BOOK_TOO_LONG = 44 /* over 8,192 events (the count's first byte) */
+};
+
+/* ---- states, events and shown values ---- */
+
+enum lm_game { LM_READY = 0, LM_PLAYING = 1, LM_WIN = 2, LM_LOSS = 3, LM_PRE_FLAGING = 4 };
+
+/* The left and the right button, up or down. */
+enum lm_mouse {
+    LM_UP_UP = 0,
+    LM_UP_DOWN = 1,
+    LM_UP_DOWN_NOT_FLAG = 2,
+    LM_DOWN_UP = 3,
+    LM_CHORDING = 4,
+    LM_CHORDING_NOT_FLAG = 5,
+    LM_DOWN_UP_AFTER_CHORDING = 6
+};
+
+enum lm_event {
+    LM_LC = 0, /* left button down */
+    LM_LR = 1, /* left button up */
+    LM_RC = 2, /* right button down */
+    LM_RR = 3, /* right button up */
+    LM_MV = 4, /* the pointer moved */
+    LM_MC = 5, /* middle button down */
+    LM_MR = 6, /* middle button up: a chord */
+    LM_CC = 7, /* both buttons down */
+    LM_PF = 8, /* a flag before the first opening */
+    LM_L = 9,  /* the left button changed */
+    LM_R = 10, /* the right button changed */
+    LM_M = 11  /* the middle button changed */
+};
+
+/* 0 to 8 is an open cell with its number. */
+enum lm_shown { LM_CLOSED = 10, LM_FLAG = 11, LM_WRONG_FLAG = 14, LM_MINE_HIT = 15, LM_QUESTION = 17 };
+
+/* Modes: 0 to 5 play by hand alone; 11 and 14 chord by themselves, 12 and 15 flag by themselves, 13 and 16 do both. */
+
+/* ---- the position ---- */
+
+/* The position of a game, 52 bytes without padding. setup makes one; a caller keeps it and hands it to the next call. Any bytes are taken:
+ * question or middle above 1, game above 4, mouse above 6 or spare not 0 means nothing, and makes the position unlawful, 26. */
+typedef struct lm_position {
+    uint8_t rows, columns, mode;
+    uint8_t question;  /* 1: a flag may become a question mark */
+    uint8_t game;      /* enum lm_game */
+    uint8_t mouse;     /* enum lm_mouse */
+    uint8_t middle;    /* 1: the middle button is down */
+    uint8_t spare;     /* 0 */
+    uint32_t preflags; /* flags set before the first opening */
+    uint32_t events;   /* accepted events */
+    /* Counts that may be shown during the game. */
+    uint32_t left, right, doubles; /* left clicks, right clicks, chords */
+    uint32_t lce, dce;             /* left clicks that opened a safe cell, chords by hand that opened cells */
+    uint32_t flag;                 /* cells that show a flag, right or wrong */
+    /* Secrets, that know hidden mines: to be shown after the game only. */
+    uint32_t rce;          /* flags by hand on a mine that had none before */
+    uint32_t solved_left;  /* 3BV solved by left clicks */
+    uint32_t solved_chord; /* 3BV solved by chords */
+} lm_position;
+
+/* A number, the position after the call, and the value asked for, 0 where none is or the call was refused. */
+typedef struct lm_answer {
+    uint32_t number; /* enum lm_number */
+    lm_position position;
+    uint32_t value;
+} lm_answer;
+
+/* The answer of a call without a position. */
+typedef struct lm_value {
+    uint32_t number; /* enum lm_number */
+    uint32_t value;
+} lm_value;
+
+/* What a book says, or its first fault: then all but number and place are 0. */
+typedef struct lm_book {
+    uint32_t number; /* 0, or a refusal */
+    uint8_t rows, columns, mode, question;
+    size_t place;     /* of the fault */
+    size_t mines_at;  /* where the mine list starts */
+    size_t mines;     /* mines, of two bytes each: lm_number_mines takes them as they stand */
+    size_t events_at; /* where the event records start */
+    size_t events;    /* events, of three bytes each: lm_step_flow takes them as they stand */
+} lm_book;
+
+/* The layout that the library was proved for. */
+typedef char lm_position_has_52_bytes[sizeof(lm_position) == 52 ? 1 : -1];
+typedef char lm_answer_has_60_bytes[sizeof(lm_answer) == 60 ? 1 : -1];
+typedef char lm_value_has_8_bytes[sizeof(lm_value) == 8 ? 1 : -1];
+typedef char lm_book_has_48_bytes[sizeof(lm_book) == 48 ? 1 : -1];
+
+/* ---- the board ---- */
+
+/* The board check: 20 to 24, or 0. */
+uint32_t lm_check_board(uint8_t rows, uint8_t columns, const int8_t *mines, size_t mines_length);
+
+/* Writes the whole mine board, numbered, from a list of mines, a row byte and a column byte each, rising in row order. 20, 21, 42, 24, or 0. */
+uint32_t lm_number_mines(uint8_t rows, uint8_t columns, const uint8_t *list, size_t list_length, int8_t *mines, size_t mines_length);
+
+/* The 3BV total, openings plus numbers without a 0 neighbour, as the value: 20 to 24, or 0. It knows hidden mines. */
+lm_value lm_total_3bv(uint8_t rows, uint8_t columns, const int8_t *mines, size_t mines_length, uint16_t *work, size_t work_length);
+
+/* ---- setup and reset ---- */
+
+/* A new game: every shown cell 10, every bit and count 0. 20 to 25, or 0. Any question other than 0 is 1. A refusal gives the fresh position of
+ * these settings. What stood in shown and bits is of no matter. */
+lm_answer lm_setup(uint8_t rows, uint8_t columns, uint8_t mode, uint8_t question, const int8_t *mines, size_t mines_length, uint8_t *shown,
+                   size_t shown_length, uint8_t *bits, size_t bits_length);
+
+/* Setup with the position's own settings: 20 to 25, or 0. It reads nothing else of the position, so it takes one that is unlawful too. */
+lm_answer lm_reset(lm_position position, const int8_t *mines, size_t mines_length, uint8_t *shown, size_t shown_length, uint8_t *bits,
+                   size_t bits_length);
+
+/* ---- a step, and a row of events ---- */
+
+/* One event: a code of enum lm_event at a cell, or at (rows, columns) for off the board. 20 to 33, or an answer 0 to 4. After Win or Loss every
+ * event at such a pointer, an unknown code too, is accepted and answers 0. */
+lm_answer lm_step(lm_position position, uint8_t code, uint8_t row, uint8_t column, const int8_t *mines, size_t mines_length, uint8_t *shown,
+                  size_t shown_length, uint8_t *bits, size_t bits_length, uint16_t *work, size_t work_length);
+
+/* A row of events, three bytes each: code, row, column. 20 to 26 once, even for none; then the events, up to the first refused one, whose
+ * number is answered; 0 where all were accepted. How many were is in position.events. */
+lm_answer lm_step_flow(lm_position position, const uint8_t *events, size_t events_length, const int8_t *mines, size_t mines_length,
+                       uint8_t *shown, size_t shown_length, uint8_t *bits, size_t bits_length, uint16_t *work, size_t work_length);
+
+/* 0, "replay", and 1, "fail", give Loss in any state: 20 to 26, or 0. Anything else is 33. It counts no event. */
+lm_answer lm_step_game_state(lm_position position, const int8_t *mines, size_t mines_length, const uint8_t *shown, size_t shown_length,
+                             const uint8_t *bits, size_t bits_length, uint8_t event);
+
+/* ---- what a position says ---- */
+
+/* The position check: 20 to 26, or 0. */
+uint32_t lm_check_position(lm_position position, const int8_t *mines, size_t mines_length, const uint8_t *shown, size_t shown_length,
+                           const uint8_t *bits, size_t bits_length);
+
+/* The 3BV solved, solved_left plus solved_chord, as the value: 20 to 26, or 0. A secret. */
+lm_answer lm_get_bbbv_solved(lm_position position, const int8_t *mines, size_t mines_length, const uint8_t *shown, size_t shown_length,
+                             const uint8_t *bits, size_t bits_length);
+
+/* The 3BV left to solve, the total minus both solved counts or 0, as the value: 20 to 26, or 0. A secret. */
+lm_answer lm_left_to_solve(lm_position position, const int8_t *mines, size_t mines_length, const uint8_t *shown, size_t shown_length,
+                           const uint8_t *bits, size_t bits_length, uint16_t *work, size_t work_length);
+
+/* ---- the book ---- */
+
+/* Reads a game book: 0, or the first fault from the front, 40 to 44, 20, 24 or 25, with its byte place. Events are judged when played. */
+lm_book lm_read_book(const uint8_t *book, size_t book_length);
+
+#ifdef __cplusplus
+}
+#endif
+
+#endif
