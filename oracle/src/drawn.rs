@@ -2,9 +2,9 @@
 
 use crate::board::numbered;
 use crate::game::*;
-use crate::lawful::showing;
+use crate::lawful::{showing, work_room};
 use crate::layout::Layout;
-use crate::player::{any_pointer, chordable, unknown_code};
+use crate::player::{any_pointer, chordable, unknown_code, Record};
 use crate::position::{Lent, Position, GAME_STATES, MOUSE_STATES};
 use crate::random::Random;
 use original::{GameBoardState, MouseState};
@@ -178,8 +178,8 @@ fn count(random: &mut Random, low: usize, high: usize) -> usize {
     }
 }
 
-/// An event for a position: code, row, column; often one that can do something there.
-pub fn event(random: &mut Random, game: &Game) -> (u8, usize, usize) {
+/// An event for a position, often one that can do something there.
+pub fn event(random: &mut Random, game: &Game) -> Record {
     let aimed = match random.below(4) {
         0 => chord(random, game),
         1 => click(random, game),
@@ -188,27 +188,27 @@ pub fn event(random: &mut Random, game: &Game) -> (u8, usize, usize) {
     aimed.unwrap_or_else(|| any_event(random, game))
 }
 
-fn any_event(random: &mut Random, game: &Game) -> (u8, usize, usize) {
+fn any_event(random: &mut Random, game: &Game) -> Record {
     let code = if random.chance(4) { unknown_code(random) } else { random.below(CODES.len()) as u8 };
     let (row, column) = any_pointer(random, game, 10, 4);
-    (code, row.into(), column.into())
+    [code, row, column]
 }
 
 /// What may chord, on a cell where a chord can run.
-fn chord(random: &mut Random, game: &Game) -> Option<(u8, usize, usize)> {
+fn chord(random: &mut Random, game: &Game) -> Option<Record> {
     let (row, column) = any_cell_with(random, game, |cell| chordable(game, cell))?;
-    Some((random.pick(&[MR, M, LR, RR, L, R]), row, column))
+    Some([random.pick(&[MR, M, LR, RR, L, R]), row as u8, column as u8])
 }
 
 /// What may open or flag with the buttons as they are, on a closed cell.
-fn click(random: &mut Random, game: &Game) -> Option<(u8, usize, usize)> {
+fn click(random: &mut Random, game: &Game) -> Option<Record> {
     let (row, column) = any_cell_with(random, game, |(row, column)| game.board.game_board[row][column] == 10)?;
     let code = match game.board.mouse_state {
         MouseState::UpUp => random.pick(&[RC, R, PF]),
         MouseState::DownUp => random.pick(&[LR, L]),
         _ => return None,
     };
-    Some((code, row, column))
+    Some([code, row as u8, column as u8])
 }
 
 fn any_cell_with(random: &mut Random, game: &Game, wanted: impl Fn((usize, usize)) -> bool) -> Option<(usize, usize)> {
@@ -216,6 +216,11 @@ fn any_cell_with(random: &mut Random, game: &Game, wanted: impl Fn((usize, usize
     let cells = (0..rows * columns).map(|cell| (cell / columns, cell % columns));
     let found: Vec<_> = cells.filter(|&cell| wanted(cell)).collect();
     (!found.is_empty()).then(|| random.pick(&found))
+}
+
+/// How much work is lent: what a step takes, at times a little more.
+pub fn work(random: &mut Random, position: &Position) -> usize {
+    work_room(position) + random.pick(&[0, 0, 1, 9])
 }
 
 /// Changes one thing; what comes out may be unlawful in one way or several, or lawful still.
@@ -249,6 +254,26 @@ fn spoil_size(random: &mut Random, position: &mut Position, lent: &mut Lent) {
     (position.settings.rows, position.settings.columns) = random.pick(&sizes);
     let cells = position.settings.rows * position.settings.columns;
     *lent = Lent { mines: vec![0; cells], shown: vec![10; cells], bits: vec![0; cells.div_ceil(8)] };
+}
+
+/// What `spoil` counts on, so it comes after that, and not often: the lengths, and that no count is at its type's end.
+pub fn spoil_ground(random: &mut Random, position: &mut Position, lent: &mut Lent, work: &mut usize) {
+    match random.below(20) {
+        0 => spoil_length(random, lent, work),
+        1 => spoil_by_far(random, position),
+        _ => (),
+    }
+}
+
+/// One length off by one, or work that a smaller board would take.
+fn spoil_length(random: &mut Random, lent: &mut Lent, work: &mut usize) {
+    let Lent { mines, shown, bits } = lent;
+    match random.below(4) {
+        0 => mines.resize(near(random, mines.len()), 0),
+        1 => shown.resize(near(random, shown.len()), 10),
+        2 => bits.resize(near(random, bits.len()), 0),
+        _ => *work = random.below(*work),
+    }
 }
 
 fn any_cell(random: &mut Random, lent: &Lent) -> Option<usize> {
@@ -286,6 +311,24 @@ fn spoil_count(random: &mut Random, position: &mut Position) {
     let p = position;
     let counts = [&mut p.left, &mut p.right, &mut p.lce, &mut p.rce, &mut p.dce, &mut p.preflag];
     *counts[random.below(6)] = bound;
+}
+
+/// The largest number that a count can hold.
+fn spoil_by_far(random: &mut Random, p: &mut Position) {
+    let counts = [
+        &mut p.preflag,
+        &mut p.events,
+        &mut p.left,
+        &mut p.right,
+        &mut p.double,
+        &mut p.lce,
+        &mut p.rce,
+        &mut p.dce,
+        &mut p.flag,
+        &mut p.solved_left,
+        &mut p.solved_chord,
+    ];
+    *counts[random.below(11)] = u32::MAX as usize;
 }
 
 fn spoil_solved(random: &mut Random, position: &mut Position, lent: &Lent) {

@@ -1,5 +1,4 @@
-// The tests 20 and 22 to 26 of a position and what is lent with it, written from document 01 alone.
-// Assumes that the three buffers have their lengths (21).
+// The tests 20 to 26 of a position and what is lent with it, written from document 01 alone.
 
 use crate::board::{mode_allowed, neighbours, size_allowed};
 use crate::game::MOST_EVENTS;
@@ -8,9 +7,15 @@ use original::{GameBoardState, MouseState};
 
 type Test = fn(&Position, &Lent) -> bool;
 
-pub fn refusal(position: &Position, lent: &Lent) -> Option<u16> {
-    let tests: [(u16, Test); 6] = [
-        (20, |position, _| size_allowed(position.settings.rows, position.settings.columns)),
+/// `work` is how many numbers of work are lent.
+pub fn refusal(position: &Position, lent: &Lent, work: usize) -> Option<u16> {
+    if !size_allowed(position.settings.rows, position.settings.columns) {
+        return Some(20);
+    }
+    if !boards_fit(position, lent) || work < work_room(position) {
+        return Some(21);
+    }
+    let tests: [(u16, Test); 5] = [
         (22, |_, lent| lent.mines.iter().all(|cell| (-1..=8).contains(cell))),
         (23, numbers_count_mines),
         (24, |_, lent| lent.mines.iter().any(|&cell| cell != -1)),
@@ -18,6 +23,16 @@ pub fn refusal(position: &Position, lent: &Lent) -> Option<u16> {
         (26, lawful),
     ];
     tests.iter().find(|(_, passes)| !passes(position, lent)).map(|&(number, _)| number)
+}
+
+fn boards_fit(position: &Position, lent: &Lent) -> bool {
+    let cells = position.settings.rows * position.settings.columns;
+    lent.mines.len() == cells && lent.shown.len() == cells && lent.bits.len() == cells.div_ceil(8)
+}
+
+/// The least work that a step takes.
+pub fn work_room(position: &Position) -> usize {
+    8 * position.settings.rows * position.settings.columns + 8
 }
 
 fn numbers_count_mines(position: &Position, lent: &Lent) -> bool {

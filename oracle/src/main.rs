@@ -9,6 +9,7 @@ mod game;
 mod lawful;
 mod layout;
 mod packed;
+mod packed_steps;
 mod player;
 mod position;
 mod positions;
@@ -21,7 +22,7 @@ use books::Kind;
 use printout::printout;
 use std::io::{BufWriter, Read, Write};
 use std::process::ExitCode;
-use steps::Start;
+use steps::{Start, Step};
 
 const USAGE: &str = "usage:
   oracle play                        a book on standard input: its printout
@@ -29,7 +30,8 @@ const USAGE: &str = "usage:
   oracle books SEED COUNT [KIND]     packed books: small, large, deep, damaged or mixed
   oracle answers [--sum]             packed books on standard input: their printouts, or their sums
   oracle pick NUMBER                 packed books on standard input: the one of this number, from 1
-  oracle steps SEED COUNT [START]    single steps from positions: lawful or spoiled
+  oracle steps SEED COUNT [START]    packed single steps from positions: lawful or spoiled
+  oracle outcomes [--whole]          packed steps on standard input: a line of the outcome of each, or of the whole
   oracle coverage SEED COUNT [KIND]  what such books reach";
 
 type Outcome = Result<bool, String>;
@@ -58,6 +60,8 @@ fn run(words: &[&str]) -> Outcome {
         ["pick", book] => pick(number(book)?),
         ["steps", seed, count] => write_steps(number(seed)?, number(count)?, Start::Lawful),
         ["steps", seed, count, start] => write_steps(number(seed)?, number(count)?, start_named(start)?),
+        ["outcomes"] => outcomes(Step::outcome_line),
+        ["outcomes", "--whole"] => outcomes(Step::whole_line),
         ["coverage", seed, count] => cover(number(seed)?, number(count)?, Kind::Mixed),
         ["coverage", seed, count, kind] => cover(number(seed)?, number(count)?, kind_named(kind)?),
         _ => Err(USAGE.into()),
@@ -111,18 +115,33 @@ fn pick(number: u64) -> Outcome {
 }
 
 fn write_steps(seed: u64, count: u64, start: Start) -> Outcome {
-    let mut out = BufWriter::new(std::io::stdout());
+    let mut packed = Vec::new();
     for number in 0..count {
-        match steps::case(seed, number, start) {
+        match steps::step(seed, number, start) {
+            Ok(step) => packed_steps::pack(&mut packed, &step),
+            Err(message) => return broken(&message),
+        }
+    }
+    write(&packed)
+}
+
+fn outcomes(line: fn(&Step) -> Result<String, String>) -> Outcome {
+    let stream = input()?;
+    let mut out = BufWriter::new(std::io::stdout());
+    for (before, step) in packed_steps::unpack(&stream)?.iter().enumerate() {
+        match line(step) {
             Ok(line) => writeln!(out, "{line}").map_err(said)?,
-            Err(message) => {
-                eprintln!("oracle: {message}");
-                return Ok(false);
-            }
+            Err(message) => return broken(&format!("step {}: {message}", before + 1)),
         }
     }
     out.flush().map_err(said)?;
     Ok(true)
+}
+
+/// A promise of document 01 does not hold.
+fn broken(message: &str) -> Outcome {
+    eprintln!("oracle: {message}");
+    Ok(false)
 }
 
 fn cover(seed: u64, count: u64, kind: Kind) -> Outcome {

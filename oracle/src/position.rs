@@ -50,7 +50,7 @@ pub struct Lent {
 }
 
 impl Position {
-    /// The eighteen numbers of a position, in the order that a line of `steps` has them.
+    /// The eighteen numbers of a position, in the order that a step has them.
     pub fn numbers(&self) -> [usize; 18] {
         [
             self.settings.rows,
@@ -73,6 +73,34 @@ impl Position {
             self.solved_chord,
         ]
     }
+
+    /// And back; None where a state, a yes or a no is none.
+    pub fn from_numbers(numbers: [usize; 18]) -> Option<Position> {
+        let [rows, columns, mode, question, game, mouse, middle, preflag, events, counts @ ..] = numbers;
+        let [left, right, double, lce, rce, dce, flag, solved_left, solved_chord] = counts;
+        let mode = mode.try_into().ok()?;
+        Some(Position {
+            settings: Settings { rows, columns, mode, question: yes_or_no(question)? },
+            game: *GAME_STATES.get(game)?,
+            mouse: *MOUSE_STATES.get(mouse)?,
+            middle: yes_or_no(middle)?,
+            preflag,
+            events,
+            left,
+            right,
+            double,
+            lce,
+            rce,
+            dce,
+            flag,
+            solved_left,
+            solved_chord,
+        })
+    }
+}
+
+fn yes_or_no(number: usize) -> Option<bool> {
+    (number <= 1).then_some(number == 1)
 }
 
 impl Lent {

@@ -1,26 +1,33 @@
-// Single steps of the Rust, each a line of decimal numbers between single spaces:
+// Single steps of the Rust. A step is a position, an event and what is lent; packed (`packed_steps.rs`), it is
 //
-//   position   rows columns mode question game mouse middle preflag events
-//              left right double lce rce dce flag solved_left solved_chord    18 numbers
-//   mines      the mine board, 255 for a mine                                 rows × columns numbers
-//   shown      the shown board                                                rows × columns numbers
-//   bits       the flagged-before bytes                                       ⌈rows × columns / 8⌉ numbers
-//   event      code row column                                                3 numbers
+//   position   rows columns mode question game mouse middle                   7 numbers of one byte
+//              preflag events left right double lce rce dce flag
+//              solved_left solved_chord                                       11 numbers of four bytes
+//   event      code row column                                                3 numbers of one byte
+//   lengths    of the mine board, the shown board, the bits and the work      4 numbers of two bytes
+//   mines      the mine board, 255 for a mine                                 its length in bytes
+//   shown      the shown board                                                its length in bytes
+//   bits       the flagged-before bytes                                       their length in bytes
+//
+// with the low byte of a number first. What stands in the work is left open, so it is not packed. A mine board value of a spoiled step
+// stands as its byte: 254 is -2. The outcome is a line of decimal numbers between single spaces:
+//
 //   answer     0 to 4, or the refusal                                         1 number
 //   position   after the step, as above                                       18 numbers
-//   shown      after the step                                                 rows × columns numbers
-//   bits       after the step                                                 ⌈rows × columns / 8⌉ numbers
+//   shown      after the step                                                 as many as were lent
+//   bits       after the step                                                 as many as were lent
 //
-// A mine board value of a spoiled position stands as its byte: 254 is -2.
+// and a whole line has the numbers of the step itself in front, in the order that it is packed.
 
 use crate::drawn;
 use crate::game::Game;
 use crate::lawful::refusal;
+use crate::player::Record;
 use crate::position::{Lent, Position};
 use crate::printout::spaced;
 use crate::random::Random;
 
-/// From lawful positions alone, or from ones that may have been spoiled (20, 22 to 26).
+/// From lawful positions alone, or from ones that may have been spoiled (20 to 26).
 #[derive(Clone, Copy, PartialEq)]
 pub enum Start {
     Lawful,
@@ -37,64 +44,100 @@ impl Start {
     }
 }
 
-struct Stood {
+pub struct Step {
+    pub position: Position,
+    pub event: Record,
+    pub lent: Lent,
+    /// how many numbers of work are lent
+    pub work: usize,
+}
+
+/// What a step leaves.
+struct Outcome {
+    answer: u16,
     position: Position,
     lent: Lent,
 }
 
-/// The line of one case; Err if the Rust breaks a promise of document 01 there.
-pub fn case(seed: u64, number: u64, start: Start) -> Result<String, String> {
+/// One step by chance; Err if it was to be lawful and is not.
+pub fn step(seed: u64, number: u64, start: Start) -> Result<Step, String> {
     let random = &mut Random::new(seed, number);
     let (mut position, mut lent) = drawn::lawful(random);
     let event = drawn::event(random, &Game::from_position(&position, &lent));
+    let mut work = drawn::work(random, &position);
     if start == Start::Spoiled {
         for _ in 0..random.between(1, 2) {
             drawn::spoil(random, &mut position, &mut lent);
         }
+        drawn::spoil_ground(random, &mut position, &mut lent, &mut work);
+    } else if refusal(&position, &lent, work).is_some() {
+        return Err(format!("step {}: the drawn position is not lawful", number + 1));
     }
-    let before = Stood { position, lent };
-    let (answer, after) = answered(&before, event);
-    let line = line(&before, event, answer, &after);
-    match broken_promise(start, &before, answer, &after) {
-        Some(promise) => Err(format!("line {}: {promise}\n{line}", number + 1)),
-        None => Ok(line),
+    Ok(Step { position, event, lent, work })
+}
+
+impl Step {
+    /// The line of the step's outcome; Err if the Rust breaks a promise of document 01 there.
+    pub fn outcome_line(&self) -> Result<String, String> {
+        Ok(spaced(&self.outcome()?.numbers()))
+    }
+
+    /// The same, with the step itself in front.
+    pub fn whole_line(&self) -> Result<String, String> {
+        let outcome = self.outcome()?.numbers();
+        Ok(spaced(&[self.numbers(), outcome].concat()))
+    }
+
+    fn outcome(&self) -> Result<Outcome, String> {
+        let after = self.played();
+        match self.broken_promise(&after) {
+            Some(promise) => Err(format!("{promise}\n{}\n{}", spaced(&self.numbers()), spaced(&after.numbers()))),
+            None => Ok(after),
+        }
+    }
+
+    fn played(&self) -> Outcome {
+        let Step { position, lent, work, .. } = self;
+        if let Some(answer) = refusal(position, lent, *work) {
+            return Outcome { answer, position: position.clone(), lent: lent.clone() };
+        }
+        let mut game = Game::from_position(position, lent);
+        let [code, row, column] = self.event;
+        let answer = game.step(code, row.into(), column.into());
+        Outcome { answer, position: game.position(), lent: game.lent() }
+    }
+
+    fn broken_promise(&self, after: &Outcome) -> Option<&'static str> {
+        let unchanged = self.position == after.position && self.lent == after.lent;
+        if after.answer >= 20 && !unchanged {
+            return Some("a refused step changed something");
+        }
+        if after.answer < 20 && refusal(&after.position, &after.lent, self.work).is_some() {
+            return Some("an accepted step left the lawful positions");
+        }
+        None
+    }
+
+    fn numbers(&self) -> Vec<usize> {
+        let Lent { mines, shown, bits } = &self.lent;
+        let mut numbers = self.position.numbers().to_vec();
+        extend(&mut numbers, &self.event);
+        numbers.extend([mines.len(), shown.len(), bits.len(), self.work]);
+        numbers.extend(mines.iter().map(|&cell| usize::from(cell as u8)));
+        extend(&mut numbers, shown);
+        extend(&mut numbers, bits);
+        numbers
     }
 }
 
-fn answered(before: &Stood, (code, row, column): (u8, usize, usize)) -> (u16, Stood) {
-    let Stood { position, lent } = before;
-    if let Some(number) = refusal(position, lent) {
-        return (number, Stood { position: position.clone(), lent: lent.clone() });
+impl Outcome {
+    fn numbers(&self) -> Vec<usize> {
+        let mut numbers = vec![self.answer.into()];
+        numbers.extend(self.position.numbers());
+        extend(&mut numbers, &self.lent.shown);
+        extend(&mut numbers, &self.lent.bits);
+        numbers
     }
-    let mut game = Game::from_position(position, lent);
-    let answer = game.step(code, row, column);
-    (answer, Stood { position: game.position(), lent: game.lent() })
-}
-
-fn broken_promise(start: Start, before: &Stood, answer: u16, after: &Stood) -> Option<&'static str> {
-    if start == Start::Lawful && refusal(&before.position, &before.lent).is_some() {
-        return Some("the drawn position is not lawful");
-    }
-    let unchanged = before.position == after.position && before.lent == after.lent;
-    if answer >= 20 && !unchanged {
-        return Some("a refused step changed something");
-    }
-    if answer < 20 && refusal(&after.position, &after.lent).is_some() {
-        return Some("an accepted step left the lawful positions");
-    }
-    None
-}
-
-fn line(before: &Stood, (code, row, column): (u8, usize, usize), answer: u16, after: &Stood) -> String {
-    let mut numbers = before.position.numbers().to_vec();
-    numbers.extend(before.lent.mines.iter().map(|&cell| usize::from(cell as u8)));
-    extend(&mut numbers, &before.lent.shown);
-    extend(&mut numbers, &before.lent.bits);
-    numbers.extend([code.into(), row, column, answer.into()]);
-    numbers.extend(after.position.numbers());
-    extend(&mut numbers, &after.lent.shown);
-    extend(&mut numbers, &after.lent.bits);
-    spaced(&numbers)
 }
 
 fn extend(numbers: &mut Vec<usize>, bytes: &[u8]) {

@@ -3,7 +3,7 @@
 ghost use mathlib.Core.Path.{_≡_};
 ghost use mathlib.Core.List.{_∷_, []};
 ghost use Prim.Native.Nat.{_<_, _≤_, _+_, _*_};
-ghost use lib.ListN.{length, drop};
+ghost use lib.ListN.{length};
 ghost use Rattle.rules.specs.Words.{bit};
 ghost use Rattle.rules.specs.Printout.{decimal, spaced, lineOf, wordLine, wordCounts, wordBv, gameLine, nineCounts, rowLines};
 ghost use Rattle.text.specs.Texts.{refusedText, endText};
@@ -20,7 +20,7 @@ fn wide(x: u8) -> u32
     x as u32
 }
 
-fn put_byte(out: &mut [u8], at: usize, b: u8) -> usize
+pub fn put_byte(out: &mut [u8], at: usize, b: u8) -> usize
     requires { ⌜ Room (b ∷ []) at (now out) ⌝ }
     ensures { λ r. ⌜ Put (b ∷ []) at (now (out .entry)) (now (out .exit)) r ⌝ }
 {
@@ -42,7 +42,7 @@ fn put_bytes(out: &mut [u8], at: usize, word: &[u8]) -> usize
 }
 
 // A number's decimal digits, the first ones first.
-fn put_decimal(out: &mut [u8], at: usize, n: u32) -> usize
+pub fn put_decimal(out: &mut [u8], at: usize, n: u32) -> usize
     requires { ⌜ Room (decimal n) at (now out) ⌝ }
     ensures { λ r. ⌜ Put (decimal n) at (now (out .entry)) (now (out .exit)) r ⌝ }
 {
@@ -63,7 +63,7 @@ fn put_number(out: &mut [u8], at: usize, n: u32) -> usize
 }
 
 // Numbers with a space before each.
-fn put_spaced(out: &mut [u8], at: usize, ns: &[u32]) -> usize
+pub fn put_spaced(out: &mut [u8], at: usize, ns: &[u32]) -> usize
     requires { ⌜ Room (spaced (now ns)) at (now out) ⌝ }
     ensures { λ r. ⌜ Put (spaced (now (ns .entry))) at (now (out .entry)) (now (out .exit)) r ⌝ }
 {
@@ -76,13 +76,13 @@ fn put_spaced(out: &mut [u8], at: usize, ns: &[u32]) -> usize
     o
 }
 
-// A row's cells after its first, with a space before each.
-fn put_others(out: &mut [u8], at: usize, cells: &[u8]) -> usize
-    requires { ⌜ Room (spaced (drop 1 (now cells))) at (now out) ⌝ }
-    ensures { λ r. ⌜ Put (spaced (drop 1 (now (cells .entry)))) at (now (out .entry)) (now (out .exit)) r ⌝ }
+// Cells with a space before each.
+pub fn put_cells(out: &mut [u8], at: usize, cells: &[u8]) -> usize
+    requires { ⌜ Room (spaced (now cells)) at (now out) ⌝ }
+    ensures { λ r. ⌜ Put (spaced (now (cells .entry))) at (now (out .entry)) (now (out .exit)) r ⌝ }
 {
     let mut o = at;
-    let mut i = 1;
+    let mut i = 0;
     while i < cells.len() {
         o = put_number(out, o, wide(cells[i]));
         i += 1;
@@ -116,11 +116,11 @@ fn put_row(out: &mut [u8], at: usize, cells: &[u8]) -> usize
     ensures { λ r. ⌜ Put (lineOf (now (cells .entry))) at (now (out .entry)) (now (out .exit)) r ⌝ }
 {
     let first = put_decimal(out, at, wide(cells[0]));
-    let last = put_others(out, first, cells);
+    let last = put_cells(out, first, &cells[1..]);
     put_byte(out, last, b'\n')
 }
 
-fn one_if(b: bool) -> u32
+pub fn one_if(b: bool) -> u32
     ensures { λ r. ⌜ r ≡ bit b ⌝ }
 {
     if b { 1 } else { 0 }

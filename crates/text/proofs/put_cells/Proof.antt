@@ -1,4 +1,4 @@
--- `text::put_others` meets its contract. The invariant: the cells not yet taken, written from here on, make the whole text.
+-- `text::put_cells` meets its contract. The invariant: the cells not yet taken, written from here on, make the whole text.
 -- The measure is how many are left.
 use native.Mathlib.Omega.{arith}
 use borrow.Author.Needs.{needs}
@@ -7,11 +7,11 @@ use lib.ListN.{length, drop}
 use Rattle.rules.specs.Printout.{spaced}
 use Rattle.text.proofs.Putting.{Leads, leads-start, leads-room, leads-turn, leads-done}
 use Rattle.text.proofs.Lines.{spaced-turn, spaced-done}
-use Rattle.text.proofs.put_others.Statement.{statement}
-use Rattle.text.proofs.put_others.Tie as tie
+use Rattle.text.proofs.put_cells.Statement.{statement}
+use Rattle.text.proofs.put_cells.Tie as tie
 
 abbrev Inv-loop : tie.InvT-loop
-Inv-loop out₀ at cells o₀ i₀ out o i = Leads (spaced (drop 1 cells)) at out₀ (spaced (drop i cells)) o out
+Inv-loop out₀ at cells o₀ i₀ out o i = Leads (spaced cells) at out₀ (spaced (drop i cells)) o out
 
 abbrev μ-loop : tie.MeasureT-loop
 μ-loop out₀ at cells o₀ i₀ out o i = length cells - i
@@ -43,8 +43,8 @@ same-length c = c .before .loop .inv .long
 returns : tie.Need-returns Inv-loop μ-loop
 returns c = leads-done (c .before .loop .inv) (spaced-done _ _ (c .loop-test .left))
 
-pub put-others-spec : {M : Type 1} → statement M
-put-others-spec =
+pub put-cells-spec : {M : Type 1} → statement M
+put-cells-spec =
     tie.close
     (tie.spec
     Inv-loop

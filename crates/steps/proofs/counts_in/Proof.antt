@@ -1,0 +1,37 @@
+-- `steps::counts_in` meets its contract: each count is the number at its place.
+use borrow.Author.Needs.{needs}
+use Rattle.steps.proofs.counts_in.Statement.{statement}
+use Rattle.steps.proofs.counts_in.Tie as tie
+
+four-at-requires : tie.Need-four-at-requires
+four-at-requires c κs = search needs
+
+four-at-requires-2 : tie.Need-four-at-requires-2
+four-at-requires-2 c κs = search needs
+
+four-at-requires-3 : tie.Need-four-at-requires-3
+four-at-requires-3 c κs = search needs
+
+four-at-requires-4 : tie.Need-four-at-requires-4
+four-at-requires-4 c κs = search needs
+
+four-at-requires-5 : tie.Need-four-at-requires-5
+four-at-requires-5 c κs = search needs
+
+four-at-requires-6 : tie.Need-four-at-requires-6
+four-at-requires-6 c κs = search needs
+
+returns : tie.Need-returns
+returns c = cc
+
+pub counts-in-spec : {M : Type 1} → statement M
+counts-in-spec =
+    tie.close
+    (tie.spec
+    four-at-requires
+    four-at-requires-2
+    four-at-requires-3
+    four-at-requires-4
+    four-at-requires-5
+    four-at-requires-6
+    returns)

@@ -1,0 +1,49 @@
+-- `steps::numbers` meets its contract: each number as its function gives it.
+use borrow.Author.Needs.{needs}
+use Rattle.steps.proofs.numbers.Statement.{statement}
+use Rattle.steps.proofs.numbers.Tie as tie
+
+wide-requires : tie.Need-wide-requires
+wide-requires c κs = search needs
+
+wide-requires-2 : tie.Need-wide-requires-2
+wide-requires-2 c κs = search needs
+
+wide-requires-3 : tie.Need-wide-requires-3
+wide-requires-3 c κs = search needs
+
+one-if-requires : tie.Need-one-if-requires
+one-if-requires c κs = search needs
+
+game-number-requires : tie.Need-game-number-requires
+game-number-requires c κs = search needs
+
+wide-requires-4 : tie.Need-wide-requires-4
+wide-requires-4 c κs = search needs
+
+mouse-number-requires : tie.Need-mouse-number-requires
+mouse-number-requires c κs = search needs
+
+wide-requires-5 : tie.Need-wide-requires-5
+wide-requires-5 c κs = search needs
+
+one-if-requires-2 : tie.Need-one-if-requires-2
+one-if-requires-2 c κs = search needs
+
+returns : tie.Need-returns
+returns c = cc
+
+pub numbers-spec : {M : Type 1} → statement M
+numbers-spec =
+    tie.close
+    (tie.spec
+    wide-requires
+    wide-requires-2
+    wide-requires-3
+    one-if-requires
+    game-number-requires
+    wide-requires-4
+    mouse-number-requires
+    wide-requires-5
+    one-if-requires-2
+    returns)
