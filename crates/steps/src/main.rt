@@ -1,6 +1,6 @@
-// Plays packed steps with `board::step`, each from its own position: standard input has up to 1,000,000, and the outcome of each is written as a line.
-// specs/Packed.antt has the layout, specs/Told.antt the line. A step that is cut off ends the program. A state's byte above the last state means
-// the last one, and a byte above 1 a yes: no step that the oracle packs has one.
+// Plays packed steps with `board::step`, each from its own position: standard input has up to 1,000,000, and the outcome of each is a line.
+// specs/Packed.antt has the layout, specs/Told.antt the line. A step that is cut off ends the program. A state's byte above the last state
+// means the last one, and a yes or no above 1 means yes: no step that the oracle packs has such a byte.
 // The files stdin and stdout are the Rust's stored answers, made by `oracle/vectors`.
 ghost use mathlib.Core.Path.{_≡_};
 ghost use Prim.Native.Nat.{_<_, _≤_};
