@@ -18,7 +18,8 @@ use Rattle.rules.specs.Lawful.{lawful}
 use Rattle.cells.specs.Ground.{Mined}
 use Rattle.cells.proofs.Words.{and-left, and-right}
 use Rattle.lawful.specs.Parts.{Checkable}
-use Rattle.keep.proofs.Lawful.{board-accepted, values-valued, accepted-ground, settings-accepted, check-lawful, lent-lawful}
+use Rattle.cells.proofs.Face.{values-valued}
+use Rattle.keep.proofs.Lawful.{board-accepted, accepted-ground, settings-accepted, check-lawful, lent-lawful}
 use Rattle.keep.proofs.Room.{sound-small}
 
 -- ---- lengths ---------------------------------------------------------------------------------------------------------------------------

@@ -3,7 +3,6 @@ use mathlib.Core.Path.{_≡_, refl, ap, ap₂, sym, _∙_}
 use mathlib.Core.Bool.{Bool, true, false, not, _&&_, _||_}
 use mathlib.Core.List.{List}
 use Prim.Native.Nat.{ℕ, zero, suc, _+_, _-_, _*_, _/_, _%_, _<_, _≤_}
-use native.Mathlib.Nat.{mod-lt, div-lt-iff-lt-mul}
 use native.Mathlib.Omega.{arith}
 use native.Mathlib.Numerals.{add-one}
 use native.Mathlib.Decide.{ℕ-discrete}
@@ -495,7 +494,3 @@ placed-end C ms n m B A e d = e ∙ ap (λ (k : ℕ). placed C ms k B) d
 
 pub numberFirst-end : (R C n : ℕ) (B A : List ℤ) → A ≡ numberFirst R C n B → n ≡ R * C → A ≡ numberFirst R C (R * C) B
 numberFirst-end R C n B A e d = e ∙ ap (λ (k : ℕ). numberFirst R C k B) d
-
--- a cell's row and column are on the board
-pub on-grid : (R C i : ℕ) → 1 ≤ C → i < R * C → (i / C < R) × (i % C < C)
-on-grid R C i h l = (div-lt-iff-lt-mul {k = C} {x = i} {y = R} h .1 l, mod-lt i h)

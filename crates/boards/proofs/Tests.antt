@@ -2,12 +2,11 @@
 use mathlib.Core.Path.{_≡_, refl, ap, ap₂, sym, _∙_}
 use mathlib.Core.Bool.{Bool, true, false, not, false≢true, _&&_, _||_}
 use mathlib.Core.List.{List}
-use Prim.Native.Nat.{ℕ, _*_, _<_, _≤_}
-use native.Mathlib.Nat.{mul-le-mul}
+use Prim.Native.Nat.{ℕ, _*_}
 use native.Mathlib.Omega.{arith}
 use borrow.Author.Tests.{ltb-true, ltb-false, le-leb, lt-leb, eq-eqb, ne-eqb, not-true, not-false}
 use lib.Dec.{eqb, ltb}
-use lib.ListN.{length, getD, List·getD-eq-default}
+use lib.ListN.{length, List·getD-eq-default}
 use lib.IntN.{ℤ, pos, negsuc}
 use lib.Signed.{ltZ}
 use mir.Syntax.{w8}
@@ -16,17 +15,11 @@ use mir.ValLaws.{toZ-ofZ}
 use Rattle.rules.specs.Words.{unless, every}
 use Rattle.rules.specs.Grid.{sizeOk, around}
 use Rattle.rules.specs.Board.{face, faceAt, mineAt, valueOk, valuesOk, numberOk, numbersOk, someSafe, boardRefusal}
-use Rattle.cells.specs.Ground.{faceIs, Valued, Mined}
-use Rattle.cells.proofs.Words.{every-at}
+use Rattle.cells.specs.Ground.{faceIs, Mined}
+use Rattle.cells.proofs.Face.{values-valued}
 use Rattle.cells.proofs.Grid.{around-same, size-limits}
 use Rattle.boards.specs.Rows.{rowOk}
 use Rattle.boards.proofs.Lists.{every-rows}
-
-pub bytes-product : (a b : ℕ) → a < 256 → b < 256 → a * b ≤ 65025
-bytes-product a b ha hb = mul-le-mul {n₁ = a} {m₁ = b} {n₂ = 255} {m₂ = 255} (omega arith) (omega arith)
-
-pub product-same : {a b r c : ℕ} → a ≡ r → b ≡ c → a * b ≡ r * c
-product-same e d = cc
 
 -- ---- a value -----------------------------------------------------------------------------------------------------------------------------
 
@@ -56,10 +49,6 @@ module _ (z : ℤ) (f : SFits w8 z) where
   -- and so is a value that is passed on
   pub value-passed : {r t : Bool} → r ≡ valueOk (toZ w8 (ofZ w8 z)) → r ≡ t → valueOk z ≡ t
   value-passed e u = sym (ap valueOk (toZ-ofZ w8 z f)) ∙ sym e ∙ u
-
-pub values-valued : (B : List ℤ) → valuesOk B ≡ true → Valued B
-unfolding valuesOk
-values-valued B e = every-at (λ j. valueOk (getD B j (pos 0))) (length B) e
 
 -- ---- the numbers -------------------------------------------------------------------------------------------------------------------------
 

@@ -17,7 +17,7 @@ use Rattle.rules.specs.Calls.{modeOk}
 use Rattle.rules.specs.Book.{refusedBook, orElse, reaches, byteAt, wordAt, settingsAt, maxEvents, minesFrom, minesSection, eventsFrom, bookOf, minesOf, eventsOf}
 use Rattle.book.specs.Laid.{Laid, laidBook, eventCountAt}
 use Rattle.book.specs.Parts.{partOf}
-use Rattle.book.proofs.Lists.{every-more, every-at}
+use Rattle.cells.proofs.Words.{every-at, every-turn}
 use Rattle.book.proofs.Reading.{part-there, mines-none, mines-right, settings-right}
 
 -- ---- a test that an accepted book passed -----------------------------------------------------------------------------------------------
@@ -39,7 +39,9 @@ module _ (s : List ℕ) (R C at : ℕ) (rest : Book) where
       let more : Book = minesFrom s R C at (suc n) left rest in
       let reached = passed 40 (length s) (leb (at + 2 * n + 2) (length s)) (orElse 42 (at + 2 * n) (mineOk R C (drop at s) n) more) (omega arith) e in
       let right = passed 42 (at + 2 * n) (mineOk R C (drop at s) n) more (omega arith) (reached .1) in
-      let all = mines-passed left (suc n) (every-more (mineOk R C (drop at s)) n before (right .0)) (right .1) in
+      let one : n + 1 ≡ suc n = omega arith in
+      let turn = subst (λ (k : ℕ). every (mineOk R C (drop at s)) k ≡ true) one (every-turn (mineOk R C (drop at s)) n before (right .0)) in
+      let all = mines-passed left (suc n) turn (right .1) in
       let same : suc n + left ≡ n + suc left = omega arith in
       (subst (λ (k : ℕ). every (mineOk R C (drop at s)) k ≡ true) same (all .0), all .1)
 
@@ -48,7 +50,7 @@ module _ (s : List ℕ) (R C at : ℕ) (rest : Book) where
   mines-pass zero n right fits = mines-none s R C at n rest
   mines-pass (suc left) n right fits =
       let same : n + suc left ≡ suc n + left = omega arith in
-      mines-right s R C at n left rest (omega arith) (every-at (mineOk R C (drop at s)) (n + suc left) n right (omega arith))
+      mines-right s R C at n left rest (omega arith) (every-at (mineOk R C (drop at s)) (n + suc left) right n (omega arith))
       ∙ mines-pass left (suc n) (subst (λ (k : ℕ). every (mineOk R C (drop at s)) k ≡ true) same right) (omega arith)
 
 -- ---- events ----------------------------------------------------------------------------------------------------------------------------

@@ -1,4 +1,3 @@
-pub mod Lists
 pub mod Reading
 pub mod Accepting
 pub mod Writing

@@ -19,7 +19,8 @@ use Rattle.rules.specs.Printout.{printoutBy, printoutOf}
 use Rattle.book.specs.Written.{longest}
 use Rattle.book.proofs.Reading.{mines-too-many, mines-counted}
 use Rattle.book.proofs.Writing.{mine-same}
-use Rattle.book.proofs.Book.{size-cells, accepted-longest}
+use Rattle.cells.proofs.Grid.{size-limits}
+use Rattle.book.proofs.Book.{accepted-longest}
 
 or-else-same : (n place : ℕ) (t t′ : Bool) {rest rest′ : Book} → t ≡ t′ → (t′ ≡ true → rest ≡ rest′)
     → orElse n place t rest ≡ orElse n place t′ rest′
@@ -131,7 +132,7 @@ module _ (s : List ℕ) (n : ℕ) (long : longest < n) (more : n ≤ length s) w
       (λ _. or-else-same 20 1 (sizeOk (byteAt cut 1) (byteAt cut 2)) (sizeOk (byteAt s 1) (byteAt s 2)) sizes
       (λ size. or-else-same 25 3 (modeOk (byteAt cut 3)) (modeOk (byteAt s 3)) (ap modeOk (byte-same 3 (omega arith)))
       (λ _. ap (λ (g : Settings). minesSection cut 5 g) settings-same
-      ∙ section-same (settingsAt s) (size-cells (byteAt s 1) (byteAt s 2) size)))))))
+      ∙ section-same (settingsAt s) (size-limits (byteAt s 1) (byteAt s 2) size .cells)))))))
 
 -- the first n bytes, where n is more than the longest book has, get the answer of all
 pub prefix-read : (s : List ℕ) (n : ℕ) → longest < n → bookOf (take n s) ≡ bookOf s

@@ -3,7 +3,6 @@ use mathlib.Core.Path.{_≡_, _∙_, sym, ap, refl}
 use mathlib.Core.Bool.{true, false}
 use mathlib.Core.List.{List, []}
 use Prim.Native.Nat.{ℕ, zero, suc, _+_, _-_, _*_, _<_, _≤_}
-use native.Mathlib.Nat.{mul-le-mul}
 use native.Mathlib.Numerals.{add-one}
 use native.Mathlib.Omega.{arith}
 use borrow.Author.Tests.{lt-ltb, le-ltb, le-leb, lt-leb, eq-eqb}
@@ -17,12 +16,6 @@ use Rattle.rules.specs.Board.{mineOk, mineCell, rises}
 use Rattle.rules.specs.Calls.{modeOk}
 use Rattle.rules.specs.Book.{refusedBook, byteAt, wordAt, settingsAt, minesFrom, minesSection, eventsFrom, bookOf}
 use Rattle.book.specs.Parts.{mineFits, partOf}
-
-pub bytes-product : (a b : ℕ) → a < 256 → b < 256 → a * b ≤ 65025
-bytes-product a b ha hb = mul-le-mul {n₁ = a} {m₁ = b} {n₂ = 255} {m₂ = 255} (omega arith) (omega arith)
-
-pub product-same : {a b r c : ℕ} → a ≡ r → b ≡ c → a * b ≡ r * c
-product-same e d = cc
 
 -- ---- parts -----------------------------------------------------------------------------------------------------------------------------
 

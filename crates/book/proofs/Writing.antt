@@ -14,7 +14,7 @@ use Rattle.rules.specs.Board.{minesIn, mineCell, rises, mineOk}
 use Rattle.rules.specs.Book.{byteAt, wordAt, settingsAt, bookOf, minesOf, eventsOf}
 use Rattle.book.specs.Laid.{Laid, eventCountAt}
 use Rattle.book.specs.Written.{word, settingsBytes, eventsIn, written, Writable, Bytes}
-use Rattle.book.proofs.Lists.{every-same}
+use Rattle.cells.proofs.Words.{every-same}
 use Rattle.book.proofs.Accepting.{accepted-laid, laid-read, part-length}
 
 -- ---- two lists that agree on their first n mines pass the same tests -------------------------------------------------------------------

@@ -13,11 +13,12 @@ use mir.Syntax.{w8}
 use mir.Val.{Fits, toZ, ofZ}
 use mir.ValLaws.{toZ-ofZ}
 use Rattle.rules.specs.Words.{bit}
-use Rattle.rules.specs.Board.{face, faceAt, valueOk}
+use Rattle.rules.specs.Board.{face, faceAt, valueOk, valuesOk}
 use Rattle.rules.specs.Opening.{closedAt}
 use Rattle.rules.specs.Clicks.{flagAt}
 use Rattle.cells.specs.declared.Around.{Around}
-use Rattle.cells.specs.Ground.{faceIs, Saw}
+use Rattle.cells.specs.Ground.{Valued, faceIs, Saw}
+use Rattle.cells.proofs.Words.{every-at}
 
 number-back : (n : ℕ) → n ≤ 8 → toZ w8 (ofZ w8 (pos n)) ≡ pos n
 number-back n h = toZ-ofZ w8 (pos n) (record { sfits = omega arith })
@@ -73,3 +74,8 @@ saw-closed shown q past e =
     let a : bit (flagAt shown q) ≡ 0 = ap (λ (x : ℕ). bit (eqb x 11)) e in
     let b : bit (closedAt shown q) ≡ 1 = ap (λ (x : ℕ). bit (eqb x 10)) e in
     record { flag = omega arith; close = omega arith }
+
+-- what the test of the values gave
+pub values-valued : (B : List ℤ) → valuesOk B ≡ true → Valued B
+unfolding valuesOk
+values-valued B e = every-at (λ i. valueOk (getD B i (pos 0))) (length B) e

@@ -3,7 +3,7 @@ use mathlib.Core.Path.{_≡_, refl, ap, ap₂, sym, _∙_}
 use mathlib.Core.Bool.{Bool, true, false, _&&_}
 use mathlib.Core.List.{List}
 use Prim.Native.Nat.{ℕ, zero, suc, _+_, _-_, _*_, _/_, _%_, _<_, _≤_}
-use native.Mathlib.Nat.{div-add-mod', add-mul, mul-le-mul-right}
+use native.Mathlib.Nat.{div-add-mod', add-mul, mul-le-mul-right, div-lt-iff-lt-mul, mod-lt}
 use native.Mathlib.Omega.{arith}
 use lib.Arith.{digits-lt, digits-div, digits-mod}
 use borrow.Author.Tests.{leb-true, ltb-true, le-leb}
@@ -61,6 +61,10 @@ pub neighbour-at : (R C row column k : ℕ) → column < C → cellBefore R C (r
 unfolding neighbour
 neighbour-at R C row column k h =
     ap₂ (λ (r c : ℕ). cellBefore R C (r + ninth k / 3) (c + ninth k % 3)) (sym (digits-div row h)) (sym (digits-mod row h))
+
+-- a cell's row and column are on the board
+pub on-grid : (R C i : ℕ) → 1 ≤ C → i < R * C → (i / C < R) × (i % C < C)
+on-grid R C i h l = (div-lt-iff-lt-mul {k = C} {x = i} {y = R} h .1 l, mod-lt i h)
 
 -- a cell is that of its row and column
 pub cell-back : (C i : ℕ) → cellOf C (i / C) (i % C) ≡ i

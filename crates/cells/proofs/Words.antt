@@ -2,7 +2,8 @@
 use mathlib.Core.Path.{_≡_, refl, ap, ap₂, sym, _∙_}
 use mathlib.Core.Bool.{Bool, true, false, true≢false, false≢true, _&&_}
 use mathlib.Core.List.{List, [], _∷_}
-use Prim.Native.Nat.{ℕ, zero, suc, _+_, _-_, _<_, _≤_}
+use Prim.Native.Nat.{ℕ, zero, suc, _+_, _-_, _*_, _<_, _≤_}
+use native.Mathlib.Nat.{mul-le-mul}
 use native.Mathlib.Omega.{arith}
 use native.Mathlib.Numerals.{add-one}
 use native.Mathlib.Decide.{ℕ-discrete}
@@ -290,3 +291,12 @@ module _ {A : Type 0} (step : A → A) (more : A → Bool) where
 
     pub looping-done : (total : A) (go : Bool) (s : A) → Looping size P total go s → go ≡ false → s ≡ total
     looping-done total go s l e = ap (λ (b : Bool). pick b (rounds step more (l .fuel) s) s) (sym e) ∙ l .same
+
+-- ---- bytes -----------------------------------------------------------------------------------------------------------------------------
+
+pub bytes-product : (a b : ℕ) → a < 256 → b < 256 → a * b ≤ 65025
+bytes-product a b ha hb = mul-le-mul {n₁ = a} {m₁ = b} {n₂ = 255} {m₂ = 255} (omega arith) (omega arith)
+
+-- a product of numbers as the code widens them
+pub product-same : {a b r c : ℕ} → a ≡ r → b ≡ c → a * b ≡ r * c
+product-same e d = cc

@@ -2,13 +2,11 @@
 use mathlib.Core.Path.{_≡_, refl, ap, _∙_}
 use mathlib.Core.Bool.{Bool, true, false}
 use mathlib.Core.List.{List, [], _∷_}
-use Prim.Native.Nat.{ℕ, _+_, _*_, _/_, _%_, _<_, _≤_, suc}
+use Prim.Native.Nat.{ℕ, _+_, _/_, _%_, _<_, _≤_, suc}
 use native.Mathlib.Omega.{arith}
 use native.Mathlib.Numerals.{add-one}
-use native.Mathlib.Nat.{mod-lt, div-lt-iff-lt-mul}
-use borrow.Author.Tests.{eqb-true, ltb-true, ltb-false}
-use lib.Dec.{ltb}
-use lib.ListN.{length, getD, length-set, replicate, List·getD-eq-default}
+use native.Mathlib.Nat.{mod-lt}
+use lib.ListN.{length, length-set, replicate}
 use Rattle.rules.specs.declared.Cells.{Cells}
 use Rattle.rules.specs.Words.{pick, stackOf}
 use Rattle.rules.specs.Grid.{ninth, cellBefore, neighbour, pushIf, pushed}
@@ -17,11 +15,8 @@ use Rattle.rules.specs.Clicks.{closedAround}
 use Rattle.cells.specs.Ground.{Below}
 use Rattle.cells.proofs.Words.{stack-push}
 use Rattle.cells.proofs.Grid.{neighbour-at, cell-back, pushed-below}
+use Rattle.opening.proofs.Cases.{closed-in}
 use Rattle.clicks.specs.Room.{oneMore, Collected}
-
--- a cell's row and column are on the board
-pub row-column : (R C i : ℕ) → 1 ≤ C → i < R * C → (i / C < R) × (i % C < C)
-row-column R C i h l = (div-lt-iff-lt-mul {k = C} {x = i} {y = R} (omega arith) .1 l, mod-lt i (omega arith))
 
 -- the array as it starts
 abbrev pub noCells : Cells
@@ -49,14 +44,6 @@ collected-turn R C shown cell k q c c′ w h l e d =
         }
     go false = record { stack = l .stack; most = omega (arith, l .most); long = l .long }
 
--- a cell that shows 10 is on the board
-pub closed-on : (shown : List ℕ) (q : ℕ) → closedAt shown q ≡ true → q < length shown
-closed-on shown q e = go (ltb q (length shown)) refl
-  where
-    go : (b : Bool) → ltb q (length shown) ≡ b → q < length shown
-    go true d = ltb-true _ _ d
-    go false d = let z : getD shown q 0 ≡ 0 = List·getD-eq-default shown 0 (ltb-false _ _ d) in let t : getD shown q 0 ≡ 10 = eqb-true _ _ e in absurd (omega arith)
-
 -- the collected cells are on the board
 pub collected-below : (R C : ℕ) (shown : List ℕ) (cell k m : ℕ) (c : Cells) → length shown ≡ m → Collected (closedAround R C shown cell) k c → Below m (stackOf (c .at) (c .n))
-collected-below R C shown cell k m c e l = rw (l .stack) (pushed-below R C m (closedAt shown) cell 8 [] (λ q h. rw (← e) (closed-on shown q h)) tt)
+collected-below R C shown cell k m c e l = rw (l .stack) (pushed-below R C m (closedAt shown) cell 8 [] (λ q h. rw (← e) (closed-in shown q h)) tt)

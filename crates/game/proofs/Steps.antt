@@ -1,6 +1,6 @@
 -- A step of a lawful game: what playing an event asks, from the lawful position, and one equation for each way a step ends.
 use mathlib.Core.Path.{_≡_, _∙_, sym, ap, refl}
-use mathlib.Core.Bool.{Bool, true, _&&_, false≢true}
+use mathlib.Core.Bool.{Bool, true, _&&_}
 use mathlib.Core.List.{List}
 use Prim.Native.Nat.{ℕ, zero, suc, _+_, _<_, _≤_}
 use native.Mathlib.Omega.{arith}
@@ -24,9 +24,10 @@ use Rattle.rules.specs.States.{mouseNumber, isNotFlag, isPlaying, withMiddle, w
 use Rattle.rules.specs.Clicks.{Desk, Play, desk, done, on}
 use Rattle.rules.specs.Mouse.{resolved, flipped}
 use Rattle.rules.specs.Step.{eventRefusal, badPreFlag, errsPreFlaging, errsPlaying, ready, preFlaging, playing, eventOf, plainOf, byGame, pointerOf, refusalAt, playAt, stepAt, stepBy, stepOn, mouse}
-use Rattle.rules.specs.Lawful.{countShown, shows}
-use Rattle.cells.proofs.Words.{count-le, and-left, and-right}
+use Rattle.cells.proofs.Words.{and-left, and-right}
 use Rattle.keep.specs.Kept.{LawfulAt, Inside, InsideOf}
+use Rattle.opening.proofs.Cost.{closed-most}
+use Rattle.keep.proofs.Passes.{playing-is}
 use Rattle.keep.proofs.Reshow.{flag-has}
 use Rattle.keep.proofs.Room.{sound-small, preflags-has}
 use Rattle.keep.proofs.Step.{event-inside}
@@ -41,17 +42,13 @@ eleven-in shown i e = go (decLt i (length shown))
     go (yes h) = h
     go (no h) = absurd (let z = List·getD-eq-default {A = ℕ} shown 0 {n = i} (omega arith) in omega arith)
 
-closed-le : (shown : List ℕ) → countShown (shows 10) shown ≤ length shown
-unfolding countShown
-closed-le shown = count-le (λ i. shows 10 (getD shown i 0)) (length shown)
-
 pub able-lawful : (B : List ℤ) (p : Position) (shown bits work : List ℕ) → LawfulAt B (desk p shown bits) → Blank (p .settings) work → AbleAt B p shown bits work
 able-lawful B p shown bits work l b =
     let h = l .kept .sound in
     let g = h .ground in
     let s = sound-small h in
     let few = l .few in
-    let c = closed-le shown in
+    let c = closed-most shown in
     let z = g .mined .sized .cells in
     let e = g .board in
     record {
@@ -186,13 +183,6 @@ button-plain B (suc zero) x d h = refl
 button-plain B (suc (suc zero)) x d h = refl
 button-plain B (suc (suc (suc zero))) x d h = refl
 button-plain B (suc (suc (suc (suc n)))) x d h = absurd (omega arith)
-
-playing-is : (g : GameState) → isPlaying g ≡ true → g ≡ Playing
-playing-is Playing e = refl
-playing-is Ready e = absurd (false≢true e)
-playing-is Win e = absurd (false≢true e)
-playing-is Loss e = absurd (false≢true e)
-playing-is PreFlaging e = absurd (false≢true e)
 
 module _ (code : ℕ) (x : Pointer) (p : Position) (shown bits : List ℕ) (t : (isPlaying (p .game) && ltb code 4) ≡ true) where
   on-button : (p .game ≡ Playing) × (code < 4)

@@ -8,7 +8,7 @@ use native.Mathlib.Omega.{arith}
 use native.Mathlib.Decide.{decLt}
 use borrow.Author.Tests.{leb-true, le-leb, eqb-true, eq-eqb}
 use lib.Dec.{eqb, leb}
-use lib.IntN.{ℤ, pos}
+use lib.IntN.{ℤ}
 use lib.ListN.{length, getD, List·getD-eq-default}
 use Rattle.rules.specs.declared.Settings.{Settings}
 use Rattle.rules.specs.declared.GameState.{GameState}
@@ -16,13 +16,13 @@ use Rattle.rules.specs.declared.GameState.the-variants.{Ready, Playing, Win, Lo
 use Rattle.rules.specs.Words.{pick, unless, every}
 use Rattle.rules.specs.States.{isLoss, isNotFlag}
 use Rattle.rules.specs.Grid.{sizeOk}
-use Rattle.rules.specs.Board.{faceAt, mineAt, valueOk, valuesOk, numbersOk, someSafe, boardRefusal}
+use Rattle.rules.specs.Board.{faceAt, mineAt, valuesOk, numbersOk, someSafe, boardRefusal}
 use Rattle.rules.specs.Lent.{bitAt}
 use Rattle.rules.specs.Clicks.{Desk, isWon}
 use Rattle.rules.specs.Lawful.{countShown, shows, isFlag, isOpenOrHit, cellLawful, shownLawful, bitsLawful, countsLawful, gameLawful, statesLawful, lawful}
 use Rattle.rules.specs.Calls.{cellsIn, boardsFit, modeOk, settingsRefusal, positionRefusal, positionCheck, lentRefusal, flowRefusal, workFits}
-use Rattle.cells.specs.Ground.{Valued}
 use Rattle.cells.proofs.Words.{and-left, and-right, and-both, every-at, every-all, unless-passed}
+use Rattle.cells.proofs.Face.{values-valued}
 use Rattle.cells.proofs.Grid.{size-limits}
 use Rattle.keep.specs.Kept.{Accepted, Ground, Phase, LawfulAt}
 
@@ -38,10 +38,6 @@ board-accepted R C fit B e =
     let d = unless-passed 22 (numbersOk B R C) _ (c .1) in
     let f = unless-passed 23 (someSafe B) 0 (d .1) in
     record { sized = size-limits R C (a .0); fits = b .0; values = c .0; numbers = d .0; safe = f .0 }
-
-pub values-valued : (B : List ℤ) → valuesOk B ≡ true → Valued B
-unfolding valuesOk
-values-valued B e = every-at (λ i. valueOk (getD B i (pos 0))) (length B) e
 
 -- the ground of an accepted board whose buffers fit
 pub accepted-ground : {s : Settings} {fit : Bool} {B : List ℤ} (shown bits : List ℕ) → Accepted (s .rows) (s .columns) fit B → boardsFit s B shown bits ≡ true → Ground B s shown bits

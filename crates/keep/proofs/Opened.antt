@@ -25,7 +25,7 @@ use Rattle.cells.specs.Ground.{Valued}
 use Rattle.opening.specs.Changed.{Changed, kept, opened, wrong}
 use Rattle.opening.proofs.Cases.{shown-shut, hit-mine, hit-stays}
 use Rattle.opening.proofs.Cost.{face-range}
-use Rattle.opening.proofs.Opening.{after-other, opening-length, opening-changes, opening-hit-shows}
+use Rattle.opening.proofs.Opening.{changed-flags, after-other, opening-length, opening-changes, opening-hit-shows}
 use Rattle.keep.specs.Kept.{Bounded, Sound, Phase, Live}
 use Rattle.keep.proofs.Counting.{shown-some, shown-mono, shown-same}
 
@@ -113,11 +113,6 @@ face-14 f (inl h) = ne-eqb f 14 (λ e. omega arith)
 face-14 f (inr h) = ap (λ (y : ℕ). eqb y 14) h
 
 module _ {B : List ℤ} {hit : Bool} {i : ℕ} (r : (faceAt B i ≤ 8) ⊎ (faceAt B i ≡ 15)) where
-  changed-flag : {x y : ℕ} → Changed B hit i x y → isFlag y ≡ isFlag x
-  changed-flag kept = refl
-  changed-flag opened = face-flag (faceAt B i) r
-  changed-flag (wrong h m) = refl
-
   changed-14 : {x y : ℕ} → Changed B hit i x y → hit ≡ false → shows 14 y ≡ true → shows 14 x ≡ true
   changed-14 kept e h = h
   changed-14 opened e h = absurd (false≢true (sym (face-14 (faceAt B i) r) ∙ h))
@@ -182,7 +177,7 @@ opened-sound {n} {m} {B} {s} {c} {c′} {k} {k′} {l} {b} given h bd db fl sv =
           let t = shown-mono isOpenOrHit l (o .shown) len (λ i _. changed-touched (ch i)) in
           omega arith;
       solved = sv;
-      flag = fl ∙ h .flag ∙ sym (shown-same isFlag l (o .shown) len (λ i _. changed-flag (face-range B v i) (ch i)));
+      flag = fl ∙ h .flag ∙ sym (shown-same isFlag l (o .shown) len (λ i _. changed-flags B v (o .hit) i (ch i)));
       wrong = wrong-by (o .hit) refl;
       cells = λ i lt.
           changed-cell (face-range B v i) (s .question) (ch i) (λ m e. opening-spares B R C given l i m e) (h .cells i (subst (λ (y : ℕ). i < y) len lt));

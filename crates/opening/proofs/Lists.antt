@@ -3,8 +3,7 @@ use mathlib.Core.Path.{_≡_, refl, ap, sym, _∙_}
 use mathlib.Core.Bool.{Bool, true, false, false≢true}
 use mathlib.Core.List.{List}
 use mathlib.Core.Logic.{inl, inr, ⊎-elim}
-use Prim.Native.Nat.{ℕ, zero, suc, _+_, _*_, _/_, _%_, _<_, _≤_}
-use native.Mathlib.Nat.{div-lt-iff-lt-mul, mod-lt}
+use Prim.Native.Nat.{ℕ, zero, suc, _+_, _<_, _≤_}
 use native.Mathlib.Omega.{arith}
 use borrow.Author.Tests.{eqb-true, eqb-false}
 use lib.Dec.{eqb}
@@ -94,7 +93,3 @@ countShown-set f shown i v h =
     let c = count-change (λ j. f (getD shown j 0)) (λ j. f (getD (set shown i v) j 0)) i (λ j d. ap f (getD-set-other shown i j v 0 d)) (length shown) h in
     let b : bit (f (getD (set shown i v) i 0)) ≡ bit (f v) = ap bit e in
     omega arith
-
--- a cell's row and column are on the board
-pub cell-place : (R C i : ℕ) → 1 ≤ C → i < R * C → (i / C < R) × (i % C < C)
-cell-place R C i h l = (div-lt-iff-lt-mul h .1 l, mod-lt i h)

@@ -334,7 +334,7 @@ module _ (B : List ℤ) (v : Valued B) (hit : Bool) (i : ℕ) where
   changed-opens opened = simp (open-or-hit, ne-eqb (faceAt B i) 10 (face-ne B v i 10 (omega arith) (omega arith)))
   changed-opens (wrong h m) = refl
 
-  changed-flags : {x y : ℕ} → Changed B hit i x y → isFlag y ≡ isFlag x
+  pub changed-flags : {x y : ℕ} → Changed B hit i x y → isFlag y ≡ isFlag x
   changed-flags kept = refl
   changed-flags opened = simp (ne-eqb (faceAt B i) 11 (face-ne B v i 11 (omega arith) (omega arith)), ne-eqb (faceAt B i) 14 (face-ne B v i 14 (omega arith) (omega arith)))
   changed-flags (wrong h m) = refl

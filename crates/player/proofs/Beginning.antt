@@ -15,7 +15,8 @@ use Rattle.rules.specs.Calls.{Numbered, numberingOf, cellsIn}
 use Rattle.rules.specs.Book.{bookOf, minesOf}
 use Rattle.rules.specs.Printout.{bookBoard, bookDesk}
 use Rattle.keep.specs.Kept.{Ground, LawfulAt}
-use Rattle.keep.proofs.Lawful.{board-accepted, values-valued}
+use Rattle.cells.proofs.Face.{values-valued}
+use Rattle.keep.proofs.Lawful.{board-accepted}
 use Rattle.keep.proofs.Fresh.{fresh-lawful}
 use Rattle.cells.proofs.Words.{inOrder-length}
 use Rattle.boards.proofs.Numbering.{numbered-accepted}

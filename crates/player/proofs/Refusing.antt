@@ -17,7 +17,7 @@ use Rattle.rules.specs.Calls.{modeOk}
 use Rattle.rules.specs.Lent.{bitBytes}
 use Rattle.rules.specs.Book.{byteAt, wordAt, orElse, reaches, maxEvents, eventsFrom, minesFrom, minesSection, settingsAt, bookOf}
 use Rattle.rules.specs.Printout.{printoutBy, printoutOf}
-use Rattle.book.proofs.Book.{size-cells}
+use Rattle.cells.proofs.Grid.{size-limits}
 use Rattle.book.proofs.Writing.{accepted-writable}
 use Rattle.text.specs.Put.{PutWithin}
 use Rattle.text.specs.Texts.{refusedText}
@@ -88,7 +88,7 @@ module _ (s : List ℕ) (b : Book) (e : b ≡ bookOf s) where
     pub book-cells : cells ≤ 2048
     book-cells =
         let w = subst (λ (x : Book). x .number ≡ 0 → sizeOk (x .settings .rows) (x .settings .columns) ≡ true) (sym e) (λ q. accepted-writable s q .size) z in
-        let c = size-cells (b .settings .rows) (b .settings .columns) w in
+        let c = size-limits (b .settings .rows) (b .settings .columns) w .cells in
         omega arith
 
     pub book-fit : (mines : List ℤ) (shown bits work out : List ℕ) → Enough mines shown bits work out

@@ -18,7 +18,8 @@ use Rattle.rules.specs.Step.{stepOn}
 use Rattle.rules.specs.Calls.{plays, lastPlay, cellsIn}
 use Rattle.secrecy.specs.Demand.{Seen, seen, seenAll, freshStart, game, Twins, Demand}
 use Rattle.cells.specs.Ground.{Valued}
-use Rattle.keep.proofs.Lawful.{board-accepted, values-valued}
+use Rattle.cells.proofs.Face.{values-valued}
+use Rattle.keep.proofs.Lawful.{board-accepted}
 use Rattle.secrecy.proofs.Lists.{entry-in}
 use Rattle.secrecy.proofs.Quiet.{bare, over, hiddenOf, aPlay, number, wrong, hit, flag, Two, KnownIn, InvIn, AgreeIn}
 use Rattle.secrecy.proofs.Events.{step-quiet}

@@ -1,7 +1,8 @@
 -- `boards::board_refusal` meets its contract: each return is one case of the chain; what passed gives the callees what they require. Assumes nothing.
 use borrow.Author.Tests.{not-true, not-false}
 use borrow.Author.Needs.{needs}
-use Rattle.boards.proofs.Tests.{says-no, says-yes, values-valued, mined-at, numbers-at, refused-size, refused-fit, refused-values, refused-numbers, refused-last}
+use Rattle.cells.proofs.Face.{values-valued}
+use Rattle.boards.proofs.Tests.{says-no, says-yes, mined-at, numbers-at, refused-size, refused-fit, refused-values, refused-numbers, refused-last}
 use Rattle.boards.proofs.board_refusal.Statement.{statement}
 use Rattle.boards.proofs.board_refusal.Tie as tie
 

@@ -1,7 +1,7 @@
 -- `boards::cell_count` meets its contract: a product of two bytes fits. Assumes nothing.
 use native.Mathlib.Omega.{arith}
 use borrow.Author.Needs.{needs}
-use Rattle.boards.proofs.Tests.{bytes-product, product-same}
+use Rattle.cells.proofs.Words.{bytes-product, product-same}
 use Rattle.boards.proofs.cell_count.Statement.{statement}
 use Rattle.boards.proofs.cell_count.Tie as tie
 

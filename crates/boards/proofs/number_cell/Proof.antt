@@ -1,7 +1,8 @@
 -- `boards::number_cell` meets its contract: a mine is left, and any other cell gets the count of faces 15 around it. Assumes nothing.
 use mathlib.Core.Path.{sym, _∙_}
 use borrow.Author.Needs.{needs}
-use Rattle.boards.proofs.Numbering.{number-left, number-stored, on-grid}
+use Rattle.cells.proofs.Grid.{on-grid}
+use Rattle.boards.proofs.Numbering.{number-left, number-stored}
 use Rattle.boards.proofs.number_cell.Statement.{statement}
 use Rattle.boards.proofs.number_cell.Tie as tie
 

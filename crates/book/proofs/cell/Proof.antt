@@ -1,7 +1,7 @@
 -- `book::cell` meets its contract: the product of two bytes, and one byte more, fit.
 use native.Mathlib.Omega.{arith}
 use borrow.Author.Needs.{needs}
-use Rattle.book.proofs.Reading.{bytes-product}
+use Rattle.cells.proofs.Words.{bytes-product}
 use Rattle.book.proofs.cell.Statement.{statement}
 use Rattle.book.proofs.cell.Tie as tie
 

@@ -5,7 +5,8 @@ use native.Mathlib.Omega.{arith}
 use mathlib.Core.Path.{_∙_, sym, refl}
 use borrow.Author.Needs.{needs}
 use Prim.Native.Nat.{_-_}
-use Rattle.book.proofs.Reading.{bytes-product, product-same, mines-short-count, mines-too-many, Reached, reached-start, reached-short, reached-wrong, reached-more, reached-done}
+use Rattle.cells.proofs.Words.{bytes-product, product-same}
+use Rattle.book.proofs.Reading.{mines-short-count, mines-too-many, Reached, reached-start, reached-short, reached-wrong, reached-more, reached-done}
 use Rattle.book.proofs.read_mines.Statement.{statement}
 use Rattle.book.proofs.read_mines.Tie as tie
 

@@ -3,7 +3,7 @@ use native.Mathlib.Omega.{arith}
 use borrow.Author.Tests.{le-leb, lt-leb}
 use borrow.Author.Needs.{needs}
 use Rattle.rules.specs.Grid.{sizeOk}
-use Rattle.book.proofs.Reading.{bytes-product}
+use Rattle.cells.proofs.Words.{bytes-product}
 use Rattle.book.proofs.size_ok.Statement.{statement}
 use Rattle.book.proofs.size_ok.Tie as tie
 

@@ -7,7 +7,8 @@ use Rattle.rules.specs.Grid.{pushed}
 use Rattle.rules.specs.Opening.{closedAt}
 use Rattle.cells.proofs.Grid.{cellBefore-le}
 use Rattle.clicks.specs.Room.{Collected}
-use Rattle.clicks.proofs.Gather.{row-column, collected-none, collected-turn}
+use Rattle.cells.proofs.Grid.{on-grid}
+use Rattle.clicks.proofs.Gather.{collected-none, collected-turn}
 use Rattle.clicks.proofs.closed_around.Statement.{statement}
 use Rattle.clicks.proofs.closed_around.Tie as tie
 
@@ -27,7 +28,7 @@ loop-holds : tie.Need-loop-holds Inv-loop μ-loop
 loop-holds c = let a = (c .before .args) in (omega arith, collected-none _ _ (a .shown .now) (a .cell))
 
 neighbour-at-requires : tie.Need-neighbour-at-requires Inv-loop μ-loop
-neighbour-at-requires c κs = (c .before .before .before .pre .0, (row-column _ _ _ (c .before .before .before .pre .0 .column) (c .before .before .before .pre .1), omega arith))
+neighbour-at-requires c κs = (c .before .before .before .pre .0, (on-grid _ _ _ (c .before .before .before .pre .0 .column) (c .before .before .before .pre .1), omega arith))
 
 add-closed-requires : tie.Need-add-closed-requires Inv-loop μ-loop
 add-closed-requires c κs = let a = (c .before .before .before .before .args) in

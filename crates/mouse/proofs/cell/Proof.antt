@@ -1,7 +1,7 @@
 -- `mouse::cell` meets its contract.
 use native.Mathlib.Omega.{arith}
 use borrow.Author.Needs.{needs}
-use Rattle.mouse.proofs.Bytes.{bytes-product}
+use Rattle.cells.proofs.Words.{bytes-product}
 use Rattle.mouse.proofs.cell.Statement.{statement}
 use Rattle.mouse.proofs.cell.Tie as tie
 

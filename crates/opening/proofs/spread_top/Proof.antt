@@ -1,7 +1,7 @@
 -- `opening::spread_top` meets its contract: the cell that is taken apart into row and column is the one on top. Assumes nothing.
 use mathlib.Core.Path.{_∙_}
 use lib.ListN.{length-set}
-use Rattle.opening.proofs.Lists.{cell-place}
+use Rattle.cells.proofs.Grid.{on-grid}
 use Rattle.opening.proofs.Touching.{seated-popped, around-back}
 use borrow.Author.Needs.{needs}
 use Rattle.opening.proofs.spread_top.Statement.{statement}
@@ -34,7 +34,7 @@ rem-touch-around c = search needs
 touch-around-requires : tie.Need-touch-around-requires
 touch-around-requires c κs =
     let pre = c .before .before .before .before .before .before .pre in
-    (seated-popped _ _ _ _ _ _ (pre .0), cell-place _ _ _ (pre .0 .sized .column) (pre .1 .1))
+    (seated-popped _ _ _ _ _ _ (pre .0), on-grid _ _ _ (pre .0 .sized .column) (pre .1 .1))
 
 same-length : tie.Need-same-length
 same-length c = search needs
