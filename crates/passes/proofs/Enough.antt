@@ -17,9 +17,9 @@ use Rattle.opening.proofs.Cost.{closed-most}
 use Rattle.clicks.specs.Room.{closedIn, Fell, idle, fell}
 use Rattle.clicks.proofs.Chord.{chord-fell}
 use Rattle.passes.specs.Passing.{going}
-use Rattle.passes.proofs.Chording.{Sits, noted-some, one-over, one-plays, one-idle, sits-long, Spent, spent-one, spent-pass, begun, round-keep, round-less}
+use Rattle.chording.proofs.Chording.{Sits, noted-some, one-over, one-plays, one-idle, sits-long, Spent, spent-one, spent-pass, begun, round-keep, round-less}
 use Rattle.passes.proofs.Turns.{Like, turn-keep, turn-less}
-use Rattle.passes.proofs.Chording as chording
+use Rattle.chording.proofs.Chording as chording
 use Rattle.passes.proofs.Turns as turns
 
 module _ (B : List ℤ) (v : Valued B) (d : Desk) where

@@ -22,9 +22,10 @@ use Rattle.opening.proofs.Cost.{closed-set}
 use Rattle.clicks.specs.Room.{Laid, Roomy, Acts, Fell, idle, fell}
 use Rattle.clicks.proofs.Ends.{ending, chord-idle, chord-runs}
 use Rattle.clicks.proofs.Chord.{chord-fell}
-use Rattle.passes.specs.declared.Scanned.{Scanned}
-use Rattle.passes.specs.Passing.{Prepared, RightRoom, ChordRoom, Leaves, Scans, counted}
-use Rattle.passes.proofs.Flagging.{mark-length}
+use Rattle.chording.specs.declared.Scanned.{Scanned}
+use Rattle.chording.specs.Scanning.{Scans}
+use Rattle.passes.specs.Passing.{Prepared, RightRoom, ChordRoom, Leaves, counted}
+use Rattle.flagging.proofs.Flagging.{mark-length}
 use Rattle.passes.proofs.Turns.{Like, like-prepared}
 
 -- ---- which passes follow ---------------------------------------------------------------------------------------------------------------

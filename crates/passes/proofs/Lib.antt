@@ -1,9 +1,3 @@
-pub mod Signed
-pub mod Grows
-pub mod Flagging
-pub mod OneScan
-pub mod Seeking
-pub mod Chording
 pub mod Turns
 pub mod Hand
 pub mod Enough

@@ -16,12 +16,13 @@ use Rattle.cells.specs.Ground.{Valued}
 use Rattle.cells.proofs.Words.{and-left, Looping, left, looping-start, looping-turn, looping-less, looping-done}
 use Rattle.opening.proofs.Cost.{closed-most}
 use Rattle.clicks.specs.Room.{Laid, Roomy, closedIn}
-use Rattle.passes.specs.declared.Scanned.{Scanned}
+use Rattle.chording.specs.declared.Scanned.{Scanned}
 use Rattle.passes.specs.declared.Passed.{Passed}
-use Rattle.passes.specs.Passing.{Prepared, Leaves, Scans, round, going}
-use Rattle.passes.proofs.Flagging.{Even, even-all}
-use Rattle.passes.proofs.OneScan.{found, flag-pass-once}
-use Rattle.passes.proofs.Chording.{Sits, sits-start, laid-on, spent-pass}
+use Rattle.chording.specs.Scanning.{Scans}
+use Rattle.passes.specs.Passing.{Prepared, Leaves, round, going}
+use Rattle.flagging.proofs.Flagging.{Even, even-all}
+use Rattle.flagging.proofs.OneScan.{found, flag-pass-once}
+use Rattle.chording.proofs.Chording.{Sits, sits-start, laid-on, spent-pass}
 
 -- ---- what a pass leaves is prepared --------------------------------------------------------------------------------------------------------
 

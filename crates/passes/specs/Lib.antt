@@ -1,3 +1,1 @@
-pub mod Listing
-pub mod Seeking
 pub mod Passing

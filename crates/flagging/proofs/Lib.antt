@@ -1,0 +1,4 @@
+pub mod Signed
+pub mod Grows
+pub mod Flagging
+pub mod OneScan

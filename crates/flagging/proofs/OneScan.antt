@@ -1,0 +1,235 @@
+-- The flag pass needs one scan: a flag makes an 11 of a 10, so around each number they stay as many together, and the second scan lists nothing.
+use mathlib.Core.Path.{_≡_, refl, ap, sym, _∙_}
+use mathlib.Core.Bool.{Bool, true, false, false≢true}
+use mathlib.Core.List.{List, [], _∷_}
+use mathlib.Core.Logic.{inl, inr, ⊎-elim}
+use Prim.Native.Nat.{ℕ, zero, suc, _+_, _*_, _<_, _≤_}
+use native.Mathlib.Omega.{arith}
+use borrow.Author.Tests.{eqb-true, eqb-false, le-leb, leb-true, ltb-true, ltb-false}
+use lib.Dec.{eqb, leb, ltb}
+use lib.ListN.{length, getD}
+use lib.Seq.{getD-set-same, getD-set-other, ext-getD}
+use lib.IntN.{ℤ}
+use Rattle.rules.specs.declared.Settings.{Settings}
+use Rattle.rules.specs.Words.{pick, bit, rounds, stackOf}
+use Rattle.rules.specs.Grid.{neighbour, around, pushIf, pushed}
+use Rattle.rules.specs.Opening.{closedAt}
+use Rattle.rules.specs.Clicks.{Desk, flagAt, rowsOf, columnsOf, cellsOf}
+use Rattle.rules.specs.Passes.{ripeAt, listed, flagOne, flagAll, Round, flagRound, foundAny, flagPass}
+use Rattle.cells.proofs.Words.{and-left, and-right, count-mono, count-zero, pick-both}
+use Rattle.cells.specs.Ground.{Valued, Below}
+use Rattle.opening.specs.Changed.{In}
+use Rattle.opening.proofs.Lists.{count-sum, in-pushed}
+use Rattle.opening.proofs.Cases.{closed-in}
+use Rattle.flagging.specs.Listing.{Grown, Flaggable, Flags}
+use Rattle.flagging.specs.Passing.{Prepared, Leaves}
+use Rattle.flagging.proofs.Grows.{listed-below}
+use Rattle.flagging.proofs.Signed.{all-closed-true, all-closed-yes}
+use Rattle.flagging.proofs.Flagging.{flag-yes, flag-no, even-all}
+
+-- what flags do to a cell: it shows the same, or 11 where it showed 10
+pub data Turned (x y : ℕ) : Type 0 where
+  same : y ≡ x → Turned x y
+  flag : x ≡ 10 → y ≡ 11 → Turned x y
+
+turned-on : (x y z : ℕ) → Turned x y → Turned y z → Turned x z
+turned-on x y z (same e) (same d) = same (d ∙ e)
+turned-on x y z (same e) (flag d h) = flag (sym e ∙ d) h
+turned-on x y z (flag e h) (same d) = flag e (d ∙ h)
+turned-on x y z (flag e h) (flag d k) = absurd (omega arith)
+
+turned-sum : (x y : ℕ) → Turned x y → bit (eqb y 11) + bit (eqb y 10) ≡ bit (eqb x 11) + bit (eqb x 10)
+turned-sum x y (same e) = rw e
+turned-sum x y (flag e h) = rw (e, h)
+
+turned-closed : (x y : ℕ) → Turned x y → eqb y 10 ≡ true → eqb x 10 ≡ true
+turned-closed x y (same e) h = rw e at h
+turned-closed x y (flag e h) d = rw e
+
+abbrev Turns : List ℕ → List ℕ → Type 0
+Turns s s′ = (q : ℕ) → Turned (getD s q 0) (getD s′ q 0)
+
+module _ (B : List ℤ) where
+  turns-one : (c : ℕ) (d : Desk) → Turns (d .shown) (flagOne B c d .shown)
+  turns-one c d q = go (closedAt (d .shown) c) (eqb q c) refl refl
+    where
+      go : (a b : Bool) → closedAt (d .shown) c ≡ a → eqb q c ≡ b → Turned (getD (d .shown) q 0) (getD (flagOne B c d .shown) q 0)
+      go true true e h =
+          rw (flag-yes B c d e, eqb-true q c h) (flag (eqb-true _ _ e) (getD-set-same (d .shown) c 11 0 (closed-in (d .shown) c e)))
+      go true false e h = rw (flag-yes B c d e) (same (getD-set-other (d .shown) c q 11 0 (eqb-false q c h)))
+      go false b e h = rw (flag-no B c d e) (same refl)
+
+  turns-all : (st : List ℕ) (d : Desk) → Turns (d .shown) (flagAll B st d .shown)
+  unfolding flagAll
+  turns-all [] d q = same refl
+  turns-all (x ∷ st) d q =
+      turned-on (getD (d .shown) q 0) (getD (flagAll B st d .shown) q 0) (getD (flagOne B x (flagAll B st d) .shown) q 0) (turns-all st d q) (turns-one x (flagAll B st d) q)
+
+-- a listed cell does not show 10 afterwards
+closed-else : (a : Bool) → (a ≡ true → ⊥) → a ≡ false
+closed-else true h = absurd (h refl)
+closed-else false h = refl
+
+module _ (B : List ℤ) where
+  flag-own : (c : ℕ) (d : Desk) → closedAt (flagOne B c d .shown) c ≡ false
+  flag-own c d = go (closedAt (d .shown) c) refl
+    where
+      go : (a : Bool) → closedAt (d .shown) c ≡ a → closedAt (flagOne B c d .shown) c ≡ false
+      go true e = rw (flag-yes B c d e) (ap (λ (x : ℕ). eqb x 10) (getD-set-same (d .shown) c 11 0 (closed-in (d .shown) c e)))
+      go false e = rw (flag-no B c d e) e
+
+  in-flagged : (st : List ℕ) (d : Desk) (q : ℕ) → In q st → closedAt (flagAll B st d .shown) q ≡ false
+  unfolding flagAll
+  in-flagged [] d q i = absurd i
+  in-flagged (x ∷ st) d q i =
+      ⊎-elim
+      (λ e. rw e (flag-own x (flagAll B st d)))
+      (λ j. closed-else (closedAt (flagOne B x (flagAll B st d) .shown) q)
+      (λ h. false≢true (sym (in-flagged st d q j) ∙ turned-closed (getD (flagAll B st d .shown) q 0) (getD (flagOne B x (flagAll B st d) .shown) q 0) (turns-one B x (flagAll B st d) q) h)))
+      i
+
+module _ (R C : ℕ) where
+  -- a ripe cell's closed neighbours are listed
+  neighbour-pushed : (p : ℕ → Bool) (c k : ℕ) (st : List ℕ) (j : ℕ) → j < k → p (neighbour R C c j) ≡ true → In (neighbour R C c j) (pushed R C p c k st)
+  unfolding pushed
+  neighbour-pushed p c zero st j h e = absurd (omega arith)
+  neighbour-pushed p c (suc k) st j h e = go (p (neighbour R C c k)) (eqb j k) refl refl (λ lt. neighbour-pushed p c k st j lt e)
+    where
+      go : (b d : Bool) → p (neighbour R C c k) ≡ b → eqb j k ≡ d → (j < k → In (neighbour R C c j) (pushed R C p c k st))
+          → In (neighbour R C c j) (pushIf b (neighbour R C c k) (pushed R C p c k st))
+      go true true x y rec = inl (ap (neighbour R C c) (eqb-true j k y))
+      go true false x y rec = inr (rec (let m = eqb-false j k y in omega arith))
+      go false true x y rec = absurd (false≢true (sym x ∙ (rw (eqb-true j k y) at e)))
+      go false false x y rec = rec (let m = eqb-false j k y in omega arith)
+
+  neighbour-listed : (s : List ℕ) (n c j : ℕ) → c < n → ripeAt R C s c ≡ true → j < 8 → closedAt s (neighbour R C c j) ≡ true → In (neighbour R C c j) (listed R C s n)
+  unfolding listed
+  neighbour-listed s zero c j h r k e = absurd (omega arith)
+  neighbour-listed s (suc n) c j h r k e = go (ripeAt R C s n) (eqb c n) refl refl (λ lt. neighbour-listed s n c j lt r k e)
+    where
+      go : (b d : Bool) → ripeAt R C s n ≡ b → eqb c n ≡ d → (c < n → In (neighbour R C c j) (listed R C s n))
+          → In (neighbour R C c j) (pick b (pushed R C (closedAt s) n 8 (listed R C s n)) (listed R C s n))
+      go true true x y rec = rw (eqb-true c n y) (neighbour-pushed (closedAt s) n 8 (listed R C s n) j k (rw (eqb-true c n y) at e))
+      go true false x y rec = in-pushed R C (closedAt s) n 8 (listed R C s n) (neighbour R C c j) (rec (let m = eqb-false c n y in omega arith))
+      go false true x y rec = absurd (false≢true (sym x ∙ (rw (eqb-true c n y) at r)))
+      go false false x y rec = rec (let m = eqb-false c n y in omega arith)
+
+  -- a ripe cell, in plain numbers
+  pub record Ripe (s : List ℕ) (c : ℕ) : Type 0 where
+    pub low : 1 ≤ getD s c 0
+    pub high : getD s c 0 ≤ 8
+    pub some : around R C (flagAt s) c < getD s c 0
+    pub sum : getD s c 0 ≡ around R C (flagAt s) c + around R C (closedAt s) c
+
+  ripe-parts : (s : List ℕ) (c : ℕ) → ripeAt R C s c ≡ true → Ripe s c
+  unfolding ripeAt
+  ripe-parts s c e =
+      let a = and-right (leb 1 (getD s c 0)) _ e in
+      let b = all-closed-true (getD s c 0) (around R C (flagAt s) c) (around R C (closedAt s) c) (and-right (leb (getD s c 0) 8) _ a) in
+      record { low = leb-true _ _ (and-left (leb 1 (getD s c 0)) _ e); high = leb-true _ _ (and-left (leb (getD s c 0) 8) _ a); some = b .0; sum = b .1 }
+
+  ripe-made : (s : List ℕ) (c : ℕ) → Ripe s c → ripeAt R C s c ≡ true
+  unfolding ripeAt
+  ripe-made s c r =
+      rw (le-leb _ _ (r .low), le-leb _ _ (r .high)) (all-closed-yes (getD s c 0) (around R C (flagAt s) c) (around R C (closedAt s) c) (r .some) (r .sum))
+
+  -- around a number, flags and closed cells together stay as many, and no more are closed
+  around-turns : (s s′ : List ℕ) → Turns s s′ → (c : ℕ)
+      → (around R C (flagAt s′) c + around R C (closedAt s′) c ≡ around R C (flagAt s) c + around R C (closedAt s) c) × (around R C (closedAt s′) c ≤ around R C (closedAt s) c)
+  unfolding around
+  around-turns s s′ t c = (
+    count-sum (λ k. flagAt s′ (neighbour R C c k)) (λ k. closedAt s′ (neighbour R C c k)) (λ k. flagAt s (neighbour R C c k)) (λ k. closedAt s (neighbour R C c k)) 8
+        (λ k h. turned-sum _ _ (t (neighbour R C c k))),
+    count-mono (λ k. closedAt s′ (neighbour R C c k)) (λ k. closedAt s (neighbour R C c k)) 8 (λ k h. turned-closed _ _ (t (neighbour R C c k))),
+  )
+
+module _ (B : List ℤ) (R C : ℕ) (d : Desk) (cells : ℕ) where
+  abbrev once : List ℕ
+  once = flagAll B (listed R C (d .shown) cells) d .shown
+
+  -- around a cell that was ripe nothing is closed any more
+  gone : (c : ℕ) → c < cells → ripeAt R C (d .shown) c ≡ true → around R C (closedAt once) c ≡ 0
+  unfolding around
+  gone c h r = count-zero (λ k. closedAt once (neighbour R C c k)) 8 (λ k l. one k l (closedAt (d .shown) (neighbour R C c k)) refl)
+    where
+      one : (k : ℕ) → k < 8 → (b : Bool) → closedAt (d .shown) (neighbour R C c k) ≡ b → closedAt once (neighbour R C c k) ≡ false
+      one k l true e = in-flagged B (listed R C (d .shown) cells) d (neighbour R C c k) (neighbour-listed R C (d .shown) cells c k h r l e)
+      one k l false e =
+          closed-else (closedAt once (neighbour R C c k))
+          (λ y. false≢true (sym e ∙ turned-closed _ _ (turns-all B (listed R C (d .shown) cells) d (neighbour R C c k)) y))
+
+  -- one that is ripe now was ripe before
+  never : (c : ℕ) → c < cells → Ripe R C once c → Turned (getD (d .shown) c 0) (getD once c 0) → ⊥
+  never c h r (flag e f) = omega (arith, r .high)
+  never c h r (same e) =
+      let m = around-turns R C (d .shown) once (turns-all B (listed R C (d .shown) cells) d) c in
+      let g = gone c h (ripe-made R C (d .shown) c
+      (record { low = omega (arith, r .low); high = omega (arith, r .high); some = omega (arith, r .some, r .sum, m .0, m .1); sum = omega (arith, r .sum, m .0) })) in
+      omega (arith, r .some, r .sum)
+
+  second : (n : ℕ) → n ≤ cells → listed R C once n ≡ []
+  unfolding listed
+  second zero h = refl
+  second (suc n) h =
+      rw (closed-else (ripeAt R C once n) (λ e. never n (omega arith) (ripe-parts R C once n e) (turns-all B (listed R C (d .shown) cells) d n))) (second n (omega arith))
+
+  -- LAW: a scan after the flags of a scan lists nothing
+  pub second-none : listed R C once cells ≡ []
+  second-none = second cells (omega arith)
+
+module _ (B : List ℤ) where
+  abbrev pub found : Desk → List ℕ
+  found d = listed (rowsOf d) (columnsOf d) (d .shown) (cellsOf d)
+
+  settings-kept : (st : List ℕ) (d : Desk) → flagAll B st d .position .settings ≡ d .position .settings
+  settings-kept st d = ap (λ p. p .settings) (even-all B st d .only)
+
+  none-after : (d : Desk) → found (flagAll B (found d) d) ≡ []
+  none-after d =
+      ap (λ (s : Settings). listed (s .rows) (s .columns) (flagAll B (found d) d .shown) (s .rows * s .columns)) (settings-kept (found d) d)
+      ∙ second-none B (rowsOf d) (columnsOf d) d (cellsOf d)
+
+  -- a second round changes nothing
+  round-twice : (s : Round) → flagRound B (flagRound B s) .desk ≡ flagRound B s .desk
+  unfolding flagRound flagAll
+  round-twice s = ap (λ (l : List ℕ). flagAll B l (flagAll B (found (s .desk)) (s .desk))) (none-after (s .desk))
+
+  rounds-desk : (f : ℕ) (s : Round) → rounds (flagRound B) foundAny (suc f) s .desk ≡ flagRound B s .desk
+  unfolding rounds
+  rounds-desk zero s = pick-both (λ (r : Round). r .desk ≡ flagRound B s .desk) (foundAny (flagRound B s)) (flagRound B s) (flagRound B s) (λ e. refl) (λ e. refl)
+  rounds-desk (suc f) s =
+      pick-both (λ (r : Round). r .desk ≡ flagRound B s .desk) (foundAny (flagRound B s)) (rounds (flagRound B) foundAny (suc f) (flagRound B s)) (flagRound B s)
+      (λ e. rounds-desk f (flagRound B s) ∙ round-twice s) (λ e. refl)
+
+  -- THEOREM: the flag pass is one scan with its flags
+  pub flag-pass-once : (d : Desk) → flagPass B d ≡ flagAll B (found d) d
+  unfolding flagPass flagRound
+  flag-pass-once d = rounds-desk (cellsOf d) (record { desk = d; any = true })
+
+-- ---- the code's pass ---------------------------------------------------------------------------------------------------------------------
+
+module _ (B : List ℤ) (d : Desk) (w w₁ : List ℕ) (n : ℕ) (p : Prepared B d w) (g : Grown w 0 (8 * cellsOf d) (found B d) w₁ n) (l : length w₁ ≡ length w) where
+  -- what flagging the list asks
+  pub pass-asks : Valued B × (Flaggable (length B) d × ((n ≤ length w₁) × Below (length B) (stackOf w₁ n)))
+  pass-asks =
+      let f = p .laid .fits in
+      let m : length (d .shown) ≡ length B = f .board ∙ sym (f .mined .long) in
+      let b : Below (length (d .shown)) (stackOf w₁ n) = rw (g .stack) (listed-below (rowsOf d) (columnsOf d) (d .shown) (cellsOf d)) in (
+        f .mined .valued,
+        (
+          record { board = m; bytes = rw (f .mined .long) (p .bytes); flags = p .room .flag },
+          (omega (arith, g .most, f .room, l), rw m at b),
+        ),
+      )
+
+  -- the list made and cleared again leaves the work as it was
+  pub pass-leaves : (d′ : Desk) (w₂ : List ℕ) → Flags d′ (flagAll B (stackOf w₁ n) d) n w₁ w₂ → length w₂ ≡ length w₁ → Leaves d′ (flagPass B d) w w₂
+  pass-leaves d′ w₂ f h =
+      record {
+        outcome = f .outcome ∙ ap (λ (st : List ℕ). flagAll B st d) (g .stack) ∙ sym (flag-pass-once B d);
+        same = ext-getD 0 w₂ w (h ∙ l) (λ i lt. go i (ltb i n) refl);
+      }
+    where
+      go : (i : ℕ) (b : Bool) → ltb i n ≡ b → getD w₂ i 0 ≡ getD w i 0
+      go i true e = let k = ltb-true _ _ e in f .clear i k ∙ sym (p .laid .zeros i (omega (arith, g .most)))
+      go i false e = let k = ltb-false _ _ e in f .rest i k ∙ g .frame i k
