@@ -1,5 +1,2 @@
-pub mod Refusals
-pub mod Making
 pub mod Outcomes
-pub mod Places
 pub mod Stepping

@@ -1,5 +1,5 @@
 -- A step and a row of events as public calls: how each way through the code is the definition's outcome.
-use mathlib.Core.Path.{_≡_, _∙_, sym, ap, ap₂, refl}
+use mathlib.Core.Path.{_≡_, _∙_, sym, ap, refl}
 use mathlib.Core.Bool.{Bool, true, false, _&&_}
 use mathlib.Core.List.{List, [], _∷_, _++_}
 use Prim.Native.Nat.{ℕ, _+_, _*_, _%_, _<_, _≤_}
@@ -28,7 +28,7 @@ use Rattle.game.specs.Core.{refusalBy, refusalOn, firstRefusal, flowOn}
 use Rattle.game.proofs.Flows.{three}
 use Rattle.board.specs.Parts.{Blanked}
 use Rattle.cells.proofs.Filling.{cleared-zeros}
-use Rattle.board.proofs.Refusals.{lent-mined}
+use Rattle.refusals.proofs.Refusals.{lent-mined}
 use Rattle.game.proofs.Answers.{play-answers, refusal-refuses, refused-from}
 
 -- ---- one event -------------------------------------------------------------------------------------------------------------------------
@@ -166,8 +166,3 @@ flow-whole B events d work n e z =
     eqb-true (length events % 3) 0
     (and-right (workFits (d .position .settings) work) (eqb (length events % 3) 0)
     (and-right (boardsFit (d .position .settings) B (d .shown) (d .bits)) _ (flow-fit B events d work (sym e ∙ z))))
-
-pub flow-is : (B : List ℤ) (events : List ℕ) (d : Desk) (work : List ℕ) (t u : Bool) (n : ℕ) → t ≡ boardsFit (d .position .settings) B (d .shown) (d .bits)
-    → u ≡ workFits (d .position .settings) work → n ≡ positionRefusal (t && (u && eqb (length events % 3) 0)) B d → n ≡ flowRefusal B events d work
-unfolding flowRefusal
-flow-is B events d work t u n e f h = h ∙ ap₂ (λ (a b : Bool). positionRefusal (a && (b && eqb (length events % 3) 0)) B d) e f

@@ -22,7 +22,7 @@ use Rattle.rules.specs.Step.{refusalAt, playAt, stepAt, stepBy, stepOn, pointer
 use Rattle.rules.specs.Calls.{Outcome, Asked, setUp, cellsIn, answers, boardsFit, workFits, refused, accepted, played, positionCheck, lentRefusal, flowRefusal, setupRefusal, setupBy, resetOf, stepOf, flowOf, gameStateOf, bbbvSolvedOf, leftToSolveOf}
 use Rattle.game.proofs.Answers.{play-answers}
 use Rattle.board.specs.Promises.{asks}
-use Rattle.board.specs.Rows.{first}
+use Rattle.refusals.specs.Rows.{first}
 use Rattle.board.proofs.Outcomes.{setup-refused, flow-refused}
 use Rattle.console.specs.declared.FlatPosition.{FlatPosition}
 use Rattle.console.specs.declared.FlatAnswer.{FlatAnswer}

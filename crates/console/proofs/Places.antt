@@ -8,8 +8,8 @@ use Rattle.rules.specs.Words.{pick}
 use Rattle.rules.specs.Clicks.{desk}
 use Rattle.rules.specs.Lawful.{lawful}
 use Rattle.rules.specs.Calls.{boardsFit, positionRefusal, positionCheck}
-use Rattle.board.specs.Rows.{Row, row, first, settingsRows}
-use Rattle.board.proofs.Places.{position-rows}
+use Rattle.refusals.specs.Rows.{Row, row, first, settingsRows}
+use Rattle.refusals.proofs.Places.{position-rows}
 use Rattle.console.specs.declared.FlatPosition.{FlatPosition}
 use Rattle.console.specs.Flat.{means, settingsIn, positionIn}
 use Rattle.console.specs.Promises.{unclear, positionFlat}

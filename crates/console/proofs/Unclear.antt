@@ -14,7 +14,7 @@ use Rattle.rules.specs.States.{withEvents}
 use Rattle.rules.specs.Clicks.{desk}
 use Rattle.rules.specs.Lawful.{lawful, countsLawful}
 use Rattle.rules.specs.Calls.{boardsFit, workFits, settingsRefusal, positionRefusal, positionCheck, lentRefusal, flowRefusal}
-use Rattle.board.proofs.Refusals.{rest-by}
+use Rattle.refusals.proofs.Refusals.{rest-by}
 use Rattle.console.specs.declared.FlatPosition.{FlatPosition}
 use Rattle.console.specs.Flat.{settingsIn, positionIn}
 use Rattle.console.specs.Promises.{unclear}

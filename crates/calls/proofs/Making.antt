@@ -1,0 +1,121 @@
+-- What the calls make: the total counted on cleared work, a fresh desk, and one equation for each answer.
+use mathlib.Core.Path.{_≡_, ap, ap₂, sym, _∙_}
+use mathlib.Core.List.{List, _++_}
+use Prim.Native.Nat.{ℕ, _+_, _-_, _*_, _<_, _≤_}
+use native.Mathlib.Omega.{arith}
+use borrow.Author.Tests.{eq-eqb, ne-eqb, le-leb, lt-leb}
+use lib.ListN.{length, drop, replicate}
+use lib.IntN.{ℤ}
+use Rattle.rules.specs.declared.Settings.{Settings}
+use Rattle.rules.specs.declared.Position.{Position}
+use Rattle.rules.specs.declared.Answer.{Answer}
+use Rattle.rules.specs.declared.GameState.the-variants.{Loss}
+use Rattle.rules.specs.States.{freshOf, withGame}
+use Rattle.rules.specs.Lent.{workRoom, workAfter}
+use Rattle.rules.specs.Judging.{total3bv}
+use Rattle.rules.specs.Clicks.{Desk}
+use Rattle.rules.specs.Calls.{SetUp, answers, setUp, setupBy, setupRefusal, setupOf, resetOf, totalRefusal, totalOf, positionCheck, lentRefusal, gameStateOf, bbbvSolvedOf, leftToSolveOf}
+use Rattle.cells.specs.Ground.{Sized, Mined, Zeros}
+use Rattle.cells.proofs.Filling.{cleared-zeros}
+use Rattle.judging.specs.Parts.{Lent}
+use Rattle.judging.proofs.Judging.{total-cells}
+use Rattle.calls.specs.Promises.{totals, asks}
+use Rattle.calls.specs.Parts.{TotalMade}
+
+-- ---- the total -------------------------------------------------------------------------------------------------------------------------
+
+-- rows and columns as the code widens them
+pub mined-wide : (B : List ℤ) {R C r c : ℕ} → r ≡ R → c ≡ C → Mined B R C → Mined B r c
+mined-wide B er ec m = rw (er, ec) m
+
+pub room-wide : {R C r c : ℕ} (l : ℕ) → r ≡ R → c ≡ C → workRoom (R * C) ≤ l → workRoom (r * c) ≤ l
+room-wide l er ec h = rw (er, ec) h
+
+module _ (B : List ℤ) {R C r c : ℕ} (er : r ≡ R) (ec : c ≡ C) (n : ℕ) (en : n ≡ R * C) (w w₁ : List ℕ) (e : w₁ ≡ replicate (8 * n + 8) 0 ++ drop (8 * n + 8) w) where
+  room-is : 8 * n + 8 ≡ workRoom (r * c)
+  room-is = rw (er, ec) (ap workRoom en)
+
+  pub zeros-wide : Zeros (workRoom (r * c)) w₁
+  zeros-wide = rw (sym room-is, e) (cleared-zeros (8 * n + 8) w)
+
+  total-wide : total3bv B r c ≡ total3bv B R C
+  total-wide = ap₂ (total3bv B) er ec
+
+  pub total-small : (t : ℕ) (w₂ : List ℕ) → Lent t (total3bv B r c) w₁ w₂ → Sized R C → t ≤ 2048
+  total-small t w₂ l s = let a = total-cells B R C in let b = l .answer ∙ total-wide in let k = s .cells in omega arith
+
+  pub total-made : (t : ℕ) (w₂ : List ℕ) → Lent t (total3bv B r c) w₁ w₂ → TotalMade B R C w t w₂
+  unfolding workAfter
+  total-made t w₂ l = record { total = l .answer ∙ total-wide; cleared = l .same ∙ e ∙ ap (λ (k : ℕ). replicate (workRoom k) 0 ++ drop (workRoom k) w) en }
+
+module _ (R C : ℕ) (B : List ℤ) (work : List ℕ) (n : ℕ) (e : n ≡ totalRefusal R C B work) where
+  pub total-refused : (n ≡ 0 → ⊥) → totals (record { number = n; value = 0 }) work ≡ totalOf R C B work
+  unfolding totalOf
+  total-refused h = ap (λ (m : ℕ). totals (record { number = m; value = 0 }) work) e ∙ simp (ne-eqb _ _ (λ q. h (e ∙ q)))
+
+  pub total-answered : (t : ℕ) (work′ : List ℕ) → n ≡ 0 → TotalMade B R C work t work′ → totals (record { number = 0; value = t }) work′ ≡ totalOf R C B work
+  unfolding totalOf
+  total-answered t work′ z m =
+      ap₂ (λ (v : ℕ) (x : List ℕ). totals (record { number = 0; value = v }) x) (m .total) (m .cleared) ∙ simp (eq-eqb _ _ (sym e ∙ z))
+
+-- ---- setup -----------------------------------------------------------------------------------------------------------------------------
+
+module _ (n : ℕ) (otherwise : Position) (s : Settings) (shown bits : List ℕ) where
+  pub set-refused : (r : Answer) → r ≡ answers n otherwise 0 → (n ≡ 0 → ⊥) → setUp r shown bits ≡ setupBy n otherwise s shown bits
+  unfolding setupBy
+  set-refused r e h = ap (λ (a : Answer). setUp a shown bits) e ∙ simp (ne-eqb n 0 h)
+
+  pub set-fresh : (r : Answer) (p : Position) (shown′ bits′ : List ℕ) → r ≡ answers 0 p 0 → p ≡ freshOf s → n ≡ 0
+      → shown′ ≡ replicate (length shown) 10 → bits′ ≡ replicate (length bits) 0 → setUp r shown′ bits′ ≡ setupBy n otherwise s shown bits
+  unfolding setupBy
+  set-fresh r p shown′ bits′ e f z a b =
+      ap₂ (λ (x y : List ℕ). setUp r x y) a b
+      ∙ ap (λ (t : Answer). setUp t (replicate (length shown) 10) (replicate (length bits) 0)) (e ∙ ap (λ (q : Position). answers 0 q 0) f)
+      ∙ simp (eq-eqb n 0 z)
+
+module _ (x : SetUp) (n : ℕ) where
+  pub setup-by : (p : Position) (s : Settings) (B : List ℤ) (shown bits : List ℕ) → x ≡ setupBy n p s shown bits → n ≡ setupRefusal s B shown bits → p ≡ freshOf s
+      → x ≡ setupOf s B shown bits
+  unfolding setupOf
+  setup-by p s B shown bits h e f = h ∙ ap₂ (λ (m : ℕ) (q : Position). setupBy m q s shown bits) e f
+
+  pub reset-by : (B : List ℤ) (d : Desk) → x ≡ setupBy n (d .position) (d .position .settings) (d .shown) (d .bits)
+      → n ≡ setupRefusal (d .position .settings) B (d .shown) (d .bits) → x ≡ resetOf B d
+  unfolding resetOf
+  reset-by B d h e = h ∙ ap (λ (m : ℕ). setupBy m (d .position) (d .position .settings) (d .shown) (d .bits)) e
+
+-- ---- the position's calls --------------------------------------------------------------------------------------------------------------
+
+module _ (B : List ℤ) (d : Desk) (n : ℕ) (e : n ≡ positionCheck B d) where
+  pub state-refused : (event : ℕ) (r : Answer) → (n ≡ 0 → ⊥) → r ≡ answers n (d .position) 0 → r ≡ gameStateOf B event d
+  unfolding gameStateOf
+  state-refused event r h a = a ∙ ap (λ (m : ℕ). answers m (d .position) 0) e ∙ simp (ne-eqb _ _ (λ q. h (e ∙ q)))
+
+  pub state-unknown : (event : ℕ) (r : Answer) → n ≡ 0 → 1 < event → r ≡ answers 33 (d .position) 0 → r ≡ gameStateOf B event d
+  unfolding gameStateOf
+  state-unknown event r z h a = a ∙ simp (eq-eqb _ _ (sym e ∙ z), lt-leb event 1 h)
+
+  pub state-lost : (event : ℕ) (r : Answer) (q : Position) → n ≡ 0 → event ≤ 1 → q ≡ withGame (d .position) Loss → r ≡ answers 0 q 0 → r ≡ gameStateOf B event d
+  unfolding gameStateOf
+  state-lost event r q z h w a = a ∙ ap (λ (x : Position). answers 0 x 0) w ∙ simp (eq-eqb _ _ (sym e ∙ z), le-leb event 1 h)
+
+  pub solved-refused : (r : Answer) → (n ≡ 0 → ⊥) → r ≡ answers n (d .position) 0 → r ≡ bbbvSolvedOf B d
+  unfolding bbbvSolvedOf
+  solved-refused r h a = a ∙ ap (λ (m : ℕ). answers m (d .position) 0) e ∙ simp (ne-eqb _ _ (λ q. h (e ∙ q)))
+
+  pub solved-is : (r : Answer) (b : ℕ) → n ≡ 0 → b ≡ d .position .secrets .«solved_left» + d .position .secrets .«solved_chord» → r ≡ answers 0 (d .position) b → r ≡ bbbvSolvedOf B d
+  unfolding bbbvSolvedOf
+  solved-is r b z h a = a ∙ ap (answers 0 (d .position)) h ∙ simp (eq-eqb _ _ (sym e ∙ z))
+
+-- ---- left to solve ---------------------------------------------------------------------------------------------------------------------
+
+module _ (B : List ℤ) (d : Desk) (work : List ℕ) (n : ℕ) (e : n ≡ lentRefusal B d work) where
+  pub left-refused : (r : Answer) → (n ≡ 0 → ⊥) → r ≡ answers n (d .position) 0 → asks r work ≡ leftToSolveOf B d work
+  unfolding leftToSolveOf
+  left-refused r h a = ap (λ (x : Answer). asks x work) (a ∙ ap (λ (m : ℕ). answers m (d .position) 0) e) ∙ simp (ne-eqb _ _ (λ q. h (e ∙ q)))
+
+  pub left-answered : (r : Answer) (t b v : ℕ) (work′ : List ℕ) → n ≡ 0 → TotalMade B (d .position .settings .rows) (d .position .settings .columns) work t work′
+      → b ≡ d .position .secrets .«solved_left» + d .position .secrets .«solved_chord» → v ≡ t - b → r ≡ answers 0 (d .position) v → asks r work′ ≡ leftToSolveOf B d work
+  unfolding leftToSolveOf
+  left-answered r t b v work′ z m h l a =
+      ap₂ asks (a ∙ ap (answers 0 (d .position)) (l ∙ ap₂ (λ (x y : ℕ). x - y) (m .total) h)) (m .cleared) ∙ simp (eq-eqb _ _ (sym e ∙ z))

@@ -1,0 +1,46 @@
+-- `calls::set_up` meets its contract.
+use borrow.Author.Needs.{needs}
+use Rattle.calls.proofs.Making.{set-refused, set-fresh}
+use Rattle.calls.proofs.set_up.Statement.{statement}
+use Rattle.calls.proofs.set_up.Tie as tie
+
+answer-requires : tie.Need-answer-requires
+answer-requires c κs = search needs
+
+returns : tie.Need-returns
+returns c = set-refused _ _ _ _ _ _ (c .answer .ensures) (c .before .if1 .taken)
+
+fill-requires : tie.Need-fill-requires
+fill-requires c κs = search needs
+
+fill-requires-2 : tie.Need-fill-requires-2
+fill-requires-2 c κs = search needs
+
+fresh-requires : tie.Need-fresh-requires
+fresh-requires c κs = search needs
+
+answer-requires-2 : tie.Need-answer-requires-2
+answer-requires-2 c κs = search needs
+
+same-length : tie.Need-same-length
+same-length c = search needs
+
+same-length-2 : tie.Need-same-length-2
+same-length-2 c = search needs
+
+returns-2 : tie.Need-returns-2
+returns-2 c = set-fresh _ _ _ _ _ _ _ _ _ (c .answer2 .ensures) (c .before .fresh .ensures) (c .before .before .before .before .before .before .before .before .before .before .if1 .left) (c .before .before .before .before .before .before .before .before .fill .ensures) (c .before .before .before .before .fill2 .ensures)
+
+pub set-up-spec : {M : Type 1} → statement M
+set-up-spec =
+    tie.close
+    (tie.spec
+    answer-requires
+    returns
+    fill-requires
+    fill-requires-2
+    fresh-requires
+    answer-requires-2
+    same-length
+    same-length-2
+    returns-2)

@@ -1,0 +1,30 @@
+-- `calls::total_3bv` meets its contract.
+use mathlib.Core.Path.{sym, _∙_}
+use borrow.Author.Needs.{needs}
+use Rattle.refusals.proofs.Refusals.{total-mined}
+use Rattle.calls.proofs.Making.{total-refused, total-answered}
+use Rattle.calls.proofs.total_3bv.Statement.{statement}
+use Rattle.calls.proofs.total_3bv.Tie as tie
+
+total-refusal-requires : tie.Need-total-refusal-requires
+total-refusal-requires c κs = search needs
+
+same-length : tie.Need-same-length
+same-length c = search needs
+
+returns : tie.Need-returns
+returns c = total-refused _ _ _ _ _ (c .before .total-refusal .ensures) (c .if1 .taken)
+
+total-on-requires : tie.Need-total-on-requires
+total-on-requires c κs = total-mined _ _ _ _ (sym (c .before .before .total-refusal .ensures) ∙ c .before .if1 .left)
+
+same-length-2 : tie.Need-same-length-2
+same-length-2 c = search needs
+
+returns-2 : tie.Need-returns-2
+returns-2 c = total-answered _ _ _ _ _ (c .before .before .before .before .before .total-refusal .ensures) _ _ (c .before .before .before .before .if1 .left) (c .before .before .total-on .ensures)
+
+pub total-3bv-spec : {M : Type 1} → statement M
+total-3bv-spec =
+    tie.close
+    (tie.spec total-refusal-requires same-length returns total-on-requires same-length-2 returns-2)

@@ -1,0 +1,185 @@
+// The public calls that play no event: the board's own, setup and reset, the checks, and what is counted. None has a `requires`: for every input
+// its contract, one equation with a definition of rules' Calls (specs/Promises.antt), determines the answer, the position, the value and every lent list.
+ghost use mathlib.Core.Path.{_≡_};
+ghost use Prim.Native.Nat.{_+_, _-_, _*_, _≤_};
+ghost use lib.ListN.{length};
+ghost use Rattle.rules.specs.Lent.{workRoom};
+ghost use Rattle.rules.specs.Calls.{answers, setUp, setupBy};
+ghost use Rattle.cells.specs.Ground.{Mined};
+ghost use Rattle.calls.specs.Promises.{CheckBoardIs, NumberMinesIs, Total3bvIs, SetupIs, ResetIs, CheckPositionIs, StepGameStateIs, BbbvSolvedIs, LeftToSolveIs};
+ghost use Rattle.calls.specs.Parts.{TotalMade};
+use rules::Answer;
+use rules::GameState;
+use rules::Position;
+use rules::Settings;
+use rules::Value;
+
+fn wide(x: u8) -> usize
+    ensures { λ r. ⌜ r ≡ x ⌝ }
+{
+    x as usize
+}
+
+pub fn answer(n: u16, p: Position, v: u32) -> Answer
+    ensures { λ r. ⌜ r ≡ answers n p v ⌝ }
+{
+    Answer {
+        number: n,
+        position: p,
+        value: v,
+    }
+}
+
+// ---- the board -------------------------------------------------------------------------------------------------------------------------
+
+// The board check: 20 to 24.
+pub fn check_board(rows: u8, columns: u8, mines: &[i8]) -> u16
+    ensures { λ r. ⌜ CheckBoardIs rows columns (now (mines .entry)) r ⌝ }
+{
+    boards::board_check(rows, columns, mines)
+}
+
+// Numbering from a mine list, a row byte and a column byte for each mine.
+pub fn number_mines(rows: u8, columns: u8, list: &[u8], mines: &mut [i8]) -> u16
+    ensures { λ r. ⌜ NumberMinesIs rows columns (now (list .entry)) (now (mines .entry)) r (now (mines .exit)) ⌝ }
+{
+    boards::number_mines(rows, columns, list, mines)
+}
+
+// Work comes in as it comes: it is cleared first, and the count gives it back so.
+fn total_on(rows: u8, columns: u8, mines: &[i8], work: &mut [u16]) -> u32
+    requires { ⌜ Mined (now mines) rows columns ⌝ }
+    requires { ⌜ workRoom (rows * columns) ≤ length (now work) ⌝ }
+    ensures { λ r. ⌜ TotalMade (now (mines .entry)) rows columns (now (work .entry)) r (now (work .exit)) ⌝ }
+{
+    let cells = boards::cell_count(rows, columns);
+    cells::clear(&mut *work, 8 * cells + 8);
+    let total = judging::total_3bv(mines, &mut *work, wide(rows), wide(columns));
+    total as u32
+}
+
+// The 3BV total: 20 to 24.
+pub fn total_3bv(rows: u8, columns: u8, mines: &[i8], work: &mut [u16]) -> Value
+    ensures { λ r. ⌜ Total3bvIs rows columns (now (mines .entry)) (now (work .entry)) r (now (work .exit)) ⌝ }
+{
+    let n = refusals::total_refusal(rows, columns, mines, &*work);
+    if n != 0 {
+        return Value {
+            number: n,
+            value: 0,
+        };
+    }
+    let total = total_on(rows, columns, mines, &mut *work);
+    Value {
+        number: 0,
+        value: total,
+    }
+}
+
+// ---- setup and reset -------------------------------------------------------------------------------------------------------------------
+
+// Every shown cell 10, every bit 0 and a fresh position; or refusal n, and the position that it gives back.
+fn set_up(n: u16, otherwise: Position, s: Settings, shown: &mut [u8], bits: &mut [u8]) -> Answer
+    ensures { λ r. ⌜ setUp r (now (shown .exit)) (now (bits .exit)) ≡ setupBy n otherwise s (now (shown .entry)) (now (bits .entry)) ⌝ }
+{
+    if n != 0 {
+        return answer(n, otherwise, 0);
+    }
+    cells::fill(&mut *shown, 10);
+    cells::fill(&mut *bits, 0);
+    let p = rules::fresh(s);
+    answer(0, p, 0)
+}
+
+// Setup: 20 to 25.
+pub fn setup(settings: Settings, mines: &[i8], shown: &mut [u8], bits: &mut [u8]) -> Answer
+    ensures { λ r. ⌜ SetupIs settings (now (mines .entry)) (now (shown .entry)) (now (bits .entry)) r (now (shown .exit)) (now (bits .exit)) ⌝ }
+{
+    let n = refusals::setup_refusal(settings, mines, &*shown, &*bits);
+    let p = rules::fresh(settings);
+    set_up(n, p, settings, &mut *shown, &mut *bits)
+}
+
+// Reset is setup with the position's own settings.
+pub fn reset(p: Position, mines: &[i8], shown: &mut [u8], bits: &mut [u8]) -> Answer
+    ensures { λ r. ⌜ ResetIs p (now (mines .entry)) (now (shown .entry)) (now (bits .entry)) r (now (shown .exit)) (now (bits .exit)) ⌝ }
+{
+    let s = p.settings;
+    let n = refusals::setup_refusal(s, mines, &*shown, &*bits);
+    set_up(n, p, s, &mut *shown, &mut *bits)
+}
+
+// ---- the position ----------------------------------------------------------------------------------------------------------------------
+
+// The position check: 20 to 26.
+pub fn check_position(p: Position, mines: &[i8], shown: &[u8], bits: &[u8]) -> u16
+    ensures { λ r. ⌜ CheckPositionIs p (now (mines .entry)) (now (shown .entry)) (now (bits .entry)) r ⌝ }
+{
+    let s = p.settings;
+    let fit = refusals::boards_fit(s, mines, shown, bits);
+    refusals::position_refusal(p, mines, shown, bits, fit)
+}
+
+// "replay" is 0 and "fail" 1: both give Loss in any state; anything else is 33. It counts no event.
+pub fn step_game_state(p: Position, mines: &[i8], shown: &[u8], bits: &[u8], event: u8) -> Answer
+    ensures { λ r. ⌜ StepGameStateIs p (now (mines .entry)) (now (shown .entry)) (now (bits .entry)) event r ⌝ }
+{
+    let n = check_position(p, mines, shown, bits);
+    if n != 0 {
+        return answer(n, p, 0);
+    }
+    if 1 < event {
+        return answer(33, p, 0);
+    }
+    let q = p.with_game(GameState::Loss);
+    answer(0, q, 0)
+}
+
+// Both solved counts together; a lawful position's are at most its open cells.
+fn solved(p: Position) -> u32
+    requires { ⌜ p .secrets .«solved_left» + p .secrets .«solved_chord» ≤ 2048 ⌝ }
+    ensures { λ r. ⌜ r ≡ p .secrets .«solved_left» + p .secrets .«solved_chord» ⌝ }
+{
+    p.secrets.solved_left + p.secrets.solved_chord
+}
+
+pub fn get_bbbv_solved(p: Position, mines: &[i8], shown: &[u8], bits: &[u8]) -> Answer
+    ensures { λ r. ⌜ BbbvSolvedIs p (now (mines .entry)) (now (shown .entry)) (now (bits .entry)) r ⌝ }
+{
+    let n = check_position(p, mines, shown, bits);
+    if n != 0 {
+        return answer(n, p, 0);
+    }
+    let both = solved(p);
+    answer(0, p, both)
+}
+
+// a minus b, or 0 if that is negative.
+fn minus(a: u32, b: u32) -> u32
+    ensures { λ r. ⌜ r ≡ a - b ⌝ }
+{
+    if a < b {
+        return 0;
+    }
+    a - b
+}
+
+// The total minus both solved counts, or 0.
+pub fn left_to_solve(
+    p: Position,
+    mines: &[i8],
+    shown: &[u8],
+    bits: &[u8],
+    work: &mut [u16],
+) -> Answer
+    ensures { λ r. ⌜ LeftToSolveIs p (now (mines .entry)) (now (shown .entry)) (now (bits .entry)) (now (work .entry)) r (now (work .exit)) ⌝ }
+{
+    let n = refusals::lent_refusal(p, mines, shown, bits, &*work);
+    if n != 0 {
+        return answer(n, p, 0);
+    }
+    let total = total_on(p.settings.rows, p.settings.columns, mines, &mut *work);
+    let both = solved(p);
+    let left = minus(total, both);
+    answer(0, p, left)
+}

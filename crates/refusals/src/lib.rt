@@ -1,0 +1,108 @@
+// The refusals 20 to 26, found before anything is written. A function whose answer is one gives the first that applies, or 0.
+// The contracts cite rules' Calls; specs/Rows.antt has the table of all refusals, and proofs/Places.antt that each stands in its place.
+ghost use mathlib.Core.Path.{_≡_};
+ghost use mathlib.Core.Bool.{true};
+ghost use Prim.Native.Nat.{_*_};
+ghost use lib.ListN.{length};
+ghost use Rattle.rules.specs.Clicks.{desk};
+ghost use Rattle.rules.specs.Calls.{boardsFit, workFits, modeOk, settingsRefusal, positionRefusal, lentRefusal, setupRefusal, totalRefusal, flowRefusal};
+use rules::Position;
+use rules::Settings;
+
+// ---- what is lent ----------------------------------------------------------------------------------------------------------------------
+
+pub fn boards_fit(s: Settings, mines: &[i8], shown: &[u8], bits: &[u8]) -> bool
+    ensures { λ r. ⌜ r ≡ boardsFit s (now (mines .entry)) (now (shown .entry)) (now (bits .entry)) ⌝ }
+{
+    let cells = boards::cell_count(s.rows, s.columns);
+    (mines.len() == cells) & ((shown.len() == cells) & (bits.len() == (cells + 7) / 8))
+}
+
+fn work_fits(s: Settings, work: &[u16]) -> bool
+    ensures { λ r. ⌜ r ≡ workFits s (now (work .entry)) ⌝ }
+{
+    let cells = boards::cell_count(s.rows, s.columns);
+    8 * cells + 8 <= work.len()
+}
+
+// ---- the chains ------------------------------------------------------------------------------------------------------------------------
+
+fn mode_ok(mode: u8) -> bool
+    ensures { λ r. ⌜ r ≡ modeOk mode ⌝ }
+{
+    (mode <= 5) | ((11 <= mode) & (mode <= 16))
+}
+
+// The first refusal of 20 to 25, or 0, where `fit` says that every buffer of the call has its length.
+fn settings_refusal(s: Settings, fit: bool, mines: &[i8]) -> u16
+    requires { ⌜ (fit ≡ true → length (now mines) ≡ s .rows * s .columns) ⌝ }
+    ensures { λ r. ⌜ r ≡ settingsRefusal s fit (now (mines .entry)) 0 ⌝ }
+{
+    let n = boards::board_refusal(s.rows, s.columns, fit, mines);
+    if n != 0 {
+        return n;
+    }
+    if !mode_ok(s.mode) {
+        return 25;
+    }
+    0
+}
+
+// The first refusal of 20 to 26, or 0.
+pub fn position_refusal(p: Position, mines: &[i8], shown: &[u8], bits: &[u8], fit: bool) -> u16
+    requires { ⌜ (fit ≡ true → boardsFit (p .settings) (now mines) (now shown) (now bits) ≡ true) ⌝ }
+    ensures { λ r. ⌜ r ≡ positionRefusal fit (now (mines .entry)) (desk p (now (shown .entry)) (now (bits .entry))) ⌝ }
+{
+    let s = p.settings;
+    let n = settings_refusal(s, fit, mines);
+    if n != 0 {
+        return n;
+    }
+    if !lawful::is_lawful(p, mines, shown, bits) {
+        return 26;
+    }
+    0
+}
+
+// The same for a call that is lent work.
+pub fn lent_refusal(p: Position, mines: &[i8], shown: &[u8], bits: &[u8], work: &[u16]) -> u16
+    ensures { λ r. ⌜ r ≡ lentRefusal (now (mines .entry)) (desk p (now (shown .entry)) (now (bits .entry))) (now (work .entry)) ⌝ }
+{
+    let s = p.settings;
+    let boards = boards_fit(s, mines, shown, bits);
+    let room = work_fits(s, work);
+    position_refusal(p, mines, shown, bits, boards & room)
+}
+
+pub fn setup_refusal(s: Settings, mines: &[i8], shown: &[u8], bits: &[u8]) -> u16
+    ensures { λ r. ⌜ r ≡ setupRefusal s (now (mines .entry)) (now (shown .entry)) (now (bits .entry)) ⌝ }
+{
+    let fit = boards_fit(s, mines, shown, bits);
+    settings_refusal(s, fit, mines)
+}
+
+pub fn total_refusal(rows: u8, columns: u8, mines: &[i8], work: &[u16]) -> u16
+    ensures { λ r. ⌜ r ≡ totalRefusal rows columns (now (mines .entry)) (now (work .entry)) ⌝ }
+{
+    let cells = boards::cell_count(rows, columns);
+    let fit = (mines.len() == cells) & (8 * cells + 8 <= work.len());
+    boards::board_refusal(rows, columns, fit, mines)
+}
+
+// The first refusal of 20 to 26 for a row of events, whose last one must be whole.
+pub fn flow_refusal(
+    p: Position,
+    events: &[u8],
+    mines: &[i8],
+    shown: &[u8],
+    bits: &[u8],
+    work: &[u16],
+) -> u16
+    ensures { λ r. ⌜ r ≡ flowRefusal (now (mines .entry)) (now (events .entry)) (desk p (now (shown .entry)) (now (bits .entry))) (now (work .entry)) ⌝ }
+{
+    let s = p.settings;
+    let boards = boards_fit(s, mines, shown, bits);
+    let room = work_fits(s, work);
+    let whole = events.len() % 3 == 0;
+    position_refusal(p, mines, shown, bits, boards & (room & whole))
+}
