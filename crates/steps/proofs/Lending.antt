@@ -6,7 +6,8 @@ use native.Mathlib.Omega.{arith}
 use lib.IntN.{ℤ}
 use lib.ListN.{length, take}
 use lib.Seq.{length-take-le}
-use Rattle.steps.specs.Told.{outcomeRoom, Rooms}
+use Rattle.packed.specs.Line.{outcomeRoom}
+use Rattle.steps.specs.Told.{Rooms}
 
 pub part-length : {A : Type 0} (n : ℕ) (l : List A) → n < 65536 → 65536 ≡ length l → n ≡ length (take n l)
 part-length n l h e = sym (length-take-le n l (omega arith))

@@ -1,52 +1,20 @@
--- The line of an outcome has its room, and a step's line is that of its outcome.
-use mathlib.Core.Path.{_≡_, refl, ap, _∙_}
-use mathlib.Core.List.{List, [], _∷_, _++_}
-use Prim.Native.Nat.{ℕ, _*_, _<_, _≤_}
+-- A step's line is that of its outcome.
+use mathlib.Core.Path.{_≡_, ap, _∙_}
+use mathlib.Core.List.{List}
+use Prim.Native.Nat.{ℕ}
 use native.Mathlib.Omega.{arith}
 use lib.IntN.{ℤ}
-use lib.ListN.{length, getD, length-append}
+use lib.ListN.{length, getD}
 use Rattle.rules.specs.declared.Answer.{Answer}
 use Rattle.rules.specs.declared.Position.{Position}
-use Rattle.rules.specs.Printout.{decimal, spaced}
 use Rattle.rules.specs.Clicks.{desk}
 use Rattle.rules.specs.Calls.{outcome, stepOf}
-use Rattle.text.specs.Put.{Room, Put, PutWithin}
-use Rattle.text.proofs.Decimal.{digits-most}
-use Rattle.text.proofs.Lengths.{few-any, few-below, below-all, spaced-length, room-within, within}
+use Rattle.text.specs.Put.{PutWithin}
+use Rattle.text.proofs.Lengths.{within}
 use Rattle.text.proofs.Putting.{put-as}
-use Rattle.steps.specs.Packed.{positionIn, signedAll}
-use Rattle.steps.specs.Told.{numbersOf, outcomeLine, outcomeRoom, lineAfter, stepLine}
-
--- the line of a position's numbers
-abbrev pub lineBy : ℕ → List ℕ → List ℕ → List ℕ → List ℕ
-lineBy n ns shown bits = decimal n ++ (spaced ns ++ (spaced shown ++ (spaced bits ++ (10 ∷ []))))
-
-bytes-length : (s : List ℕ) → ((i : ℕ) → getD s i 0 < 256) → length (spaced s) ≤ 4 * length s
-bytes-length s b = spaced-length 3 s (few-below 2 s (below-all 1000 s (λ i. let h = b i in omega arith)))
-
-line-by-length : (n : ℕ) (ns shown bits : List ℕ) → length ns ≡ 18 → ((i : ℕ) → getD shown i 0 < 256) → ((i : ℕ) → getD bits i 0 < 256)
-    → length (lineBy n ns shown bits) ≤ outcomeRoom (length shown) (length bits)
-line-by-length n ns shown bits e hs hb =
-    let d = digits-most 10 n [] in
-    let s = spaced-length 10 ns (few-any ns) in
-    let c = bytes-length shown hs in
-    let b = bytes-length bits hb in
-    let l = length-append (decimal n) (spaced ns ++ (spaced shown ++ (spaced bits ++ (10 ∷ [])))) in
-    let m = length-append (spaced ns) (spaced shown ++ (spaced bits ++ (10 ∷ []))) in
-    let k = length-append (spaced shown) (spaced bits ++ (10 ∷ [])) in
-    let j = length-append (spaced bits) (10 ∷ []) in
-    omega arith
-
-module _ (a : Answer) {ns : List ℕ} (shown bits : List ℕ) (e : ns ≡ numbersOf (a .position))
-    (hs : (i : ℕ) → getD shown i 0 < 256) (hb : (i : ℕ) → getD bits i 0 < 256) where
-  pub outcome-room : {out : List ℕ} → outcomeRoom (length shown) (length bits) ≤ length out → Room (lineBy (a .number) ns shown bits) 0 out
-  outcome-room h = room-within (outcomeRoom (length shown) (length bits)) {at = 0} (line-by-length (a .number) ns shown bits (ap length e) hs hb) (omega arith)
-
-  pub outcome-told : {out out′ : List ℕ} {r : ℕ} → Put (lineBy (a .number) ns shown bits) 0 out out′ r
-      → PutWithin (outcomeRoom (length shown) (length bits)) (outcomeLine a shown bits) 0 out out′ r
-  outcome-told p =
-      within (line-by-length (a .number) (numbersOf (a .position)) shown bits refl hs hb)
-      (put-as (ap (λ (l : List ℕ). lineBy (a .number) l shown bits) e) p)
+use Rattle.packed.specs.Packed.{positionIn, signedAll}
+use Rattle.packed.specs.Line.{outcomeLine, outcomeRoom, lineAfter}
+use Rattle.steps.specs.Told.{stepLine}
 
 -- the step that was played, of the board that was signed and the position that was read, is the packed one
 module _ (head bytes shown bits work : List ℕ) {B : List ℤ} {p : Position} {a : Answer} {shown′ bits′ work′ : List ℕ}

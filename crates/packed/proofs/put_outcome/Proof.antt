@@ -1,9 +1,9 @@
--- `steps::put_outcome` meets its contract: the answer, the position, the cells, the bits and the line's end, one after the other.
+-- `packed::put_outcome` meets its contract: the answer, the position, the cells, the bits and the line's end, one after the other.
 use borrow.Author.Needs.{needs}
 use Rattle.text.proofs.Putting.{room-first, room-second, put-then}
-use Rattle.steps.proofs.Telling.{outcome-room, outcome-told}
-use Rattle.steps.proofs.put_outcome.Statement.{statement}
-use Rattle.steps.proofs.put_outcome.Tie as tie
+use Rattle.packed.proofs.Telling.{outcome-room, outcome-told}
+use Rattle.packed.proofs.put_outcome.Statement.{statement}
+use Rattle.packed.proofs.put_outcome.Tie as tie
 
 numbers-requires : tie.Need-numbers-requires
 numbers-requires c κs = search needs

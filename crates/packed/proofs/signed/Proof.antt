@@ -1,9 +1,9 @@
--- `steps::signed` meets its contract: from 128 on it goes over sixteen bits.
+-- `packed::signed` meets its contract: from 128 on it goes over sixteen bits.
 use native.Mathlib.Omega.{arith}
 use borrow.Author.Needs.{needs}
-use Rattle.steps.proofs.Signs.{low-is, less-fits, back-fits, high-is}
-use Rattle.steps.proofs.signed.Statement.{statement}
-use Rattle.steps.proofs.signed.Tie as tie
+use Rattle.packed.proofs.Signs.{low-is, less-fits, back-fits, high-is}
+use Rattle.packed.proofs.signed.Statement.{statement}
+use Rattle.packed.proofs.signed.Tie as tie
 
 cast-result : tie.Need-cast-result
 cast-result c = search needs

@@ -1,11 +1,11 @@
--- `steps::sign_all` meets its contract. The invariant: the cells passed are signed. The measure is how many are left.
+-- `packed::sign_all` meets its contract. The invariant: the cells passed are signed. The measure is how many are left.
 use Prim.Native.Nat.{_-_}
 use native.Mathlib.Omega.{arith}
 use lib.ListN.{length}
 use borrow.Author.Needs.{needs}
-use Rattle.steps.proofs.Signs.{Signing, signing-start, signing-turn, signing-done}
-use Rattle.steps.proofs.sign_all.Statement.{statement}
-use Rattle.steps.proofs.sign_all.Tie as tie
+use Rattle.packed.proofs.Signs.{Signing, signing-start, signing-turn, signing-done}
+use Rattle.packed.proofs.sign_all.Statement.{statement}
+use Rattle.packed.proofs.sign_all.Tie as tie
 
 abbrev Inv-loop : tie.InvT-loop
 Inv-loop bytes mines₀ i₀ mines i = Signing bytes mines i

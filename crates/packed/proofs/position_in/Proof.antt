@@ -1,7 +1,8 @@
--- `steps::position_in` meets its contract: each part is the one at its place.
+-- `packed::position_in` meets its contract: each part is the one at its place.
 use borrow.Author.Needs.{needs}
-use Rattle.steps.proofs.position_in.Statement.{statement}
-use Rattle.steps.proofs.position_in.Tie as tie
+use Rattle.packed.proofs.Reading.{position-read}
+use Rattle.packed.proofs.position_in.Statement.{statement}
+use Rattle.packed.proofs.position_in.Tie as tie
 
 settings-in-requires : tie.Need-settings-in-requires
 settings-in-requires c κs = search needs
@@ -34,7 +35,7 @@ four-at-requires-2 : tie.Need-four-at-requires-2
 four-at-requires-2 c κs = search needs
 
 returns : tie.Need-returns
-returns c = cc
+returns c = position-read (c .before .before .before .before .before .before .before .before .before .before .args .s .now) (c .before .before .before .before .before .before .before .before .before .settings-in .ensures) (c .before .before .before .before .before .before .before .game-at .ensures) (c .before .before .before .before .before .mouse-at .ensures) (c .before .four-at .ensures) (c .four-at2 .ensures) (c .before .before .before .before .counts-in .ensures) (c .before .before .before .secrets-in .ensures)
 
 pub position-in-spec : {M : Type 1} → statement M
 position-in-spec =

@@ -1,7 +1,8 @@
--- `steps::secrets_in` meets its contract: each count is the number at its place.
+-- `packed::secrets_in` meets its contract: each count is the number at its place.
 use borrow.Author.Needs.{needs}
-use Rattle.steps.proofs.secrets_in.Statement.{statement}
-use Rattle.steps.proofs.secrets_in.Tie as tie
+use Rattle.packed.proofs.Reading.{secrets-read}
+use Rattle.packed.proofs.secrets_in.Statement.{statement}
+use Rattle.packed.proofs.secrets_in.Tie as tie
 
 four-at-requires : tie.Need-four-at-requires
 four-at-requires c κs = search needs
@@ -13,7 +14,7 @@ four-at-requires-3 : tie.Need-four-at-requires-3
 four-at-requires-3 c κs = search needs
 
 returns : tie.Need-returns
-returns c = cc
+returns c = secrets-read (c .before .before .before .args .s .now) (c .before .before .four-at .ensures) (c .before .four-at2 .ensures) (c .four-at3 .ensures)
 
 pub secrets-in-spec : {M : Type 1} → statement M
 secrets-in-spec =

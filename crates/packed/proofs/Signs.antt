@@ -13,7 +13,7 @@ use borrow.Author.Tests.{lt-ltb, le-ltb, ltb-true, ltb-false}
 use mir.Syntax.{w8, w16}
 use mir.Val.{SFits, toZ, ofZ}
 use mir.Facts.{toZ-ofZ, toZ-pos}
-use Rattle.steps.specs.Packed.{signedOf}
+use Rattle.packed.specs.Packed.{signedOf}
 
 -- ---- a byte ----------------------------------------------------------------------------------------------------------------------------
 

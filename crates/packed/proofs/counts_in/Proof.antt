@@ -1,7 +1,8 @@
--- `steps::counts_in` meets its contract: each count is the number at its place.
+-- `packed::counts_in` meets its contract: each count is the number at its place.
 use borrow.Author.Needs.{needs}
-use Rattle.steps.proofs.counts_in.Statement.{statement}
-use Rattle.steps.proofs.counts_in.Tie as tie
+use Rattle.packed.proofs.Reading.{counts-read}
+use Rattle.packed.proofs.counts_in.Statement.{statement}
+use Rattle.packed.proofs.counts_in.Tie as tie
 
 four-at-requires : tie.Need-four-at-requires
 four-at-requires c κs = search needs
@@ -22,7 +23,7 @@ four-at-requires-6 : tie.Need-four-at-requires-6
 four-at-requires-6 c κs = search needs
 
 returns : tie.Need-returns
-returns c = cc
+returns c = counts-read (c .before .before .before .before .before .before .args .s .now) (c .before .before .before .before .before .four-at .ensures) (c .before .before .before .before .four-at2 .ensures) (c .before .before .before .four-at3 .ensures) (c .before .before .four-at4 .ensures) (c .before .four-at5 .ensures) (c .four-at6 .ensures)
 
 pub counts-in-spec : {M : Type 1} → statement M
 counts-in-spec =

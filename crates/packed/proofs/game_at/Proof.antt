@@ -1,8 +1,8 @@
--- `steps::game_at` meets its contract.
+-- `packed::game_at` meets its contract.
 use borrow.Author.Tests.{ne-eqb}
-use Rattle.steps.specs.Packed.{gameAt}
-use Rattle.steps.proofs.game_at.Statement.{statement}
-use Rattle.steps.proofs.game_at.Tie as tie
+use Rattle.packed.specs.Packed.{gameAt}
+use Rattle.packed.proofs.game_at.Statement.{statement}
+use Rattle.packed.proofs.game_at.Tie as tie
 
 returns : tie.Need-returns
 unfolding gameAt

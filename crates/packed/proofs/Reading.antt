@@ -1,0 +1,44 @@
+-- A position read from its packed bytes, and its numbers, part by part.
+use mathlib.Core.Path.{_≡_}
+use mathlib.Core.Bool.{Bool}
+use mathlib.Core.List.{List, [], _∷_}
+use Prim.Native.Nat.{ℕ}
+use lib.ListN.{getD}
+use Rattle.rules.specs.declared.Settings.{Settings}
+use Rattle.rules.specs.declared.GameState.{GameState}
+use Rattle.rules.specs.declared.MouseState.{MouseState}
+use Rattle.rules.specs.declared.Counts.{Counts}
+use Rattle.rules.specs.declared.Secrets.{Secrets}
+use Rattle.rules.specs.declared.Position.{Position}
+use Rattle.rules.specs.Words.{bit}
+use Rattle.rules.specs.States.{gameNumber, mouseNumber, mouseAt}
+use Rattle.packed.specs.Packed.{fourAt, yes, gameAt, settingsIn, countsIn, secretsIn, positionIn}
+use Rattle.packed.specs.Line.{numbersOf}
+
+abbrev countsOf : ℕ → ℕ → ℕ → ℕ → ℕ → ℕ → Counts
+countsOf l r d c e f = record { left = l; right = r; double = d; lce = c; dce = e; flag = f }
+
+abbrev secretsOf : ℕ → ℕ → ℕ → Secrets
+secretsOf r l c = record { rce = r; «solved_left» = l; «solved_chord» = c }
+
+abbrev positionOf : Settings → GameState → MouseState → Bool → ℕ → ℕ → Counts → Secrets → Position
+positionOf st g m b p e c k =
+    record { settings = st; game = g; mouse = m; middle = b; preflags = p; events = e; counts = c; secrets = k }
+
+pub counts-read : (s : List ℕ) {l r d c e f : ℕ} → l ≡ fourAt s 15 → r ≡ fourAt s 19 → d ≡ fourAt s 23 → c ≡ fourAt s 27 → e ≡ fourAt s 35 → f ≡ fourAt s 39
+    → countsOf l r d c e f ≡ countsIn s
+counts-read s hl hr hd hc he hf = rw (hl, hr, hd, hc, he, hf)
+
+pub secrets-read : (s : List ℕ) {r l c : ℕ} → r ≡ fourAt s 31 → l ≡ fourAt s 43 → c ≡ fourAt s 47 → secretsOf r l c ≡ secretsIn s
+secrets-read s hr hl hc = rw (hr, hl, hc)
+
+pub position-read : (s : List ℕ) {st : Settings} {g : GameState} {m : MouseState} {p e : ℕ} {c : Counts} {k : Secrets} → st ≡ settingsIn s → g ≡ gameAt (getD s 4 0)
+    → m ≡ mouseAt (getD s 5 0) → p ≡ fourAt s 7 → e ≡ fourAt s 11 → c ≡ countsIn s → k ≡ secretsIn s → positionOf st g m (yes (getD s 6 0)) p e c k ≡ positionIn s
+position-read s hst hg hm hp he hc hk = rw (hst, hg, hm, hp, he, hc, hk)
+
+-- what stands for each number that a function of its own gives
+pub numbers-are : (p : Position) {r c m q g g′ o o′ b : ℕ} → r ≡ p .settings .rows → c ≡ p .settings .columns → m ≡ p .settings .mode → q ≡ bit (p .settings .question)
+    → g ≡ g′ → g′ ≡ gameNumber (p .game) → o ≡ o′ → o′ ≡ mouseNumber (p .mouse) → b ≡ bit (p .middle)
+    → r ∷ c ∷ m ∷ q ∷ g ∷ o ∷ b ∷ p .preflags ∷ p .events ∷ p .counts .left ∷ p .counts .right ∷ p .counts .double ∷ p .counts .lce ∷ p .secrets .rce ∷ p .counts .dce ∷ p .counts .flag ∷ p .secrets .«solved_left» ∷ p .secrets .«solved_chord» ∷ []
+    ≡ numbersOf p
+numbers-are p hr hc hm hq hg hg′ ho ho′ hb = rw (hr, hc, hm, hq, hg, hg′, ho, ho′, hb)
