@@ -24,11 +24,11 @@ use Rattle.game.proofs.Answers.{play-answers}
 use Rattle.board.specs.Promises.{asks}
 use Rattle.refusals.specs.Rows.{first}
 use Rattle.board.proofs.Outcomes.{setup-refused, flow-refused}
-use Rattle.console.specs.declared.FlatPosition.{FlatPosition}
-use Rattle.console.specs.declared.FlatAnswer.{FlatAnswer}
-use Rattle.console.specs.Flat.{means, settingsOf, settingsIn, positionIn, flatOf, gives, flatAnswer}
+use Rattle.flats.specs.declared.FlatPosition.{FlatPosition}
+use Rattle.flats.specs.declared.FlatAnswer.{FlatAnswer}
+use Rattle.flats.specs.Flat.{means, settingsOf, settingsIn, positionIn, flatOf, gives, flatAnswer}
 use Rattle.console.specs.Promises.{Leaves, leaves, unclear, flatOutcome, flatAsked, resetOr, flatSetUp, setupFlat, resetFlat, stepFlat, flowFlat, gameStateFlat, bbbvSolvedFlat, leftFlat}
-use Rattle.console.proofs.Bytes.{flat-back}
+use Rattle.flats.proofs.Bytes.{flat-back}
 use Rattle.console.proofs.Places.{flatRows, flat-rows}
 
 -- an event that is refused leaves the desk as it was

@@ -1,4 +1,3 @@
-pub mod Bytes
 pub mod Unclear
 pub mod Making
 pub mod Outcomes

@@ -18,32 +18,14 @@ use Rattle.rules.specs.Clicks.{desk}
 use Rattle.rules.specs.Calls.{Outcome, Asked, boardsFit, workFits, answers, outcome, refused, setUp, setupOf, resetOf, stepOf, flowOf, gameStateOf, bbbvSolvedOf, leftToSolveOf, totalOf, positionCheck}
 use Rattle.board.specs.Promises.{asks, totals}
 use Rattle.board.proofs.Outcomes.{step-refused, flow-refused, step-game-state-refused, bbbv-solved-refused, left-to-solve-refused}
-use Rattle.console.specs.declared.FlatPosition.{FlatPosition}
-use Rattle.console.specs.declared.FlatAnswer.{FlatAnswer}
-use Rattle.console.specs.declared.FlatValue.{FlatValue}
-use Rattle.console.specs.Flat.{means, settingsOf, settingsIn, positionIn, gives, flatAnswer}
-use Rattle.console.specs.Parts.{readOf, answeredOf}
+use Rattle.flats.specs.declared.FlatPosition.{FlatPosition}
+use Rattle.flats.specs.declared.FlatAnswer.{FlatAnswer}
+use Rattle.flats.specs.declared.FlatValue.{FlatValue}
+use Rattle.flats.specs.Flat.{means, settingsOf, settingsIn, positionIn, gives, flatAnswer}
+use Rattle.flats.specs.Parts.{readOf, answeredOf}
 use Rattle.console.specs.Promises.{leaves, unclear, flatSetUp, resetOr, flatTotalled, setupFlat, resetFlat, stepFlat, flowFlat, positionFlat, gameStateFlat, bbbvSolvedFlat, leftFlat}
+use Rattle.flats.proofs.Reading.{read-meant, read-unclear, answered-meant, answered-unclear}
 use Rattle.console.proofs.Unclear.{unclear-refuses, unclear-check, unclear-lent, unclear-flow}
-
--- ---- what is read and answered ---------------------------------------------------------------------------------------------------------
-
-module _ (f : FlatPosition) where
-  pub read-meant : means f ≡ true → readOf f ≡ positionIn f
-  unfolding readOf
-  read-meant m = simp m
-
-  pub read-unclear : means f ≡ false → readOf f ≡ withEvents (positionIn f) 65536
-  unfolding readOf
-  read-unclear m = simp m
-
-  pub answered-meant : (a : Answer) → means f ≡ true → answeredOf f a ≡ flatAnswer a
-  unfolding answeredOf
-  answered-meant a m = simp m
-
-  pub answered-unclear : (a : Answer) → means f ≡ false → answeredOf f a ≡ gives (a .number) f 0
-  unfolding answeredOf
-  answered-unclear a m = simp m
 
 -- ---- one law for every call on a position ----------------------------------------------------------------------------------------------
 

@@ -4,10 +4,10 @@ use mathlib.Core.Path.{_≡_, ap, sym, _∙_}
 use mathlib.Core.List.{List, [], _∷_}
 use Prim.Native.Nat.{ℕ}
 use lib.IntN.{ℤ}
-use Rattle.console.specs.declared.FlatPosition.{FlatPosition}
-use Rattle.console.specs.declared.FlatAnswer.{FlatAnswer}
-use Rattle.console.specs.declared.FlatValue.{FlatValue}
-use Rattle.console.specs.declared.FlatBook.{FlatBook}
+use Rattle.flats.specs.declared.FlatPosition.{FlatPosition}
+use Rattle.flats.specs.declared.FlatAnswer.{FlatAnswer}
+use Rattle.flats.specs.declared.FlatValue.{FlatValue}
+use Rattle.flats.specs.declared.FlatBook.{FlatBook}
 use Rattle.console.specs.Promises.{Leaves, leaves, SetupIs, ResetIs, StepIs, StepFlowIs, CheckPositionIs, StepGameStateIs, BbbvSolvedIs, LeftToSolveIs, Total3bvIs, ReadBookIs}
 
 -- two things that equal a third

@@ -10,8 +10,8 @@ use Rattle.rules.specs.Lawful.{lawful}
 use Rattle.rules.specs.Calls.{boardsFit, positionRefusal, positionCheck}
 use Rattle.refusals.specs.Rows.{Row, row, first, settingsRows}
 use Rattle.refusals.proofs.Places.{position-rows}
-use Rattle.console.specs.declared.FlatPosition.{FlatPosition}
-use Rattle.console.specs.Flat.{means, settingsIn, positionIn}
+use Rattle.flats.specs.declared.FlatPosition.{FlatPosition}
+use Rattle.flats.specs.Flat.{means, settingsIn, positionIn}
 use Rattle.console.specs.Promises.{unclear, positionFlat}
 use Rattle.console.proofs.Unclear.{unclear-position, odd-unlawful}
 

@@ -15,8 +15,8 @@ use Rattle.rules.specs.Clicks.{desk}
 use Rattle.rules.specs.Lawful.{lawful, countsLawful}
 use Rattle.rules.specs.Calls.{boardsFit, workFits, settingsRefusal, positionRefusal, positionCheck, lentRefusal, flowRefusal}
 use Rattle.refusals.proofs.Refusals.{rest-by}
-use Rattle.console.specs.declared.FlatPosition.{FlatPosition}
-use Rattle.console.specs.Flat.{settingsIn, positionIn}
+use Rattle.flats.specs.declared.FlatPosition.{FlatPosition}
+use Rattle.flats.specs.Flat.{settingsIn, positionIn}
 use Rattle.console.specs.Promises.{unclear}
 
 -- no lawful position has 65,536 events

@@ -12,11 +12,11 @@ use Rattle.rules.specs.Words.{pick}
 use Rattle.rules.specs.Clicks.{desk}
 use Rattle.rules.specs.Calls.{Outcome, SetUp, Asked, Totalled, boardsFit, workFits, settingsRefusal, setupOf, resetOf, stepOf, flowOf, gameStateOf, bbbvSolvedOf, leftToSolveOf, totalOf, positionCheck}
 use Rattle.rules.specs.Book.{bookOf}
-use Rattle.console.specs.declared.FlatPosition.{FlatPosition}
-use Rattle.console.specs.declared.FlatAnswer.{FlatAnswer}
-use Rattle.console.specs.declared.FlatValue.{FlatValue}
-use Rattle.console.specs.declared.FlatBook.{FlatBook}
-use Rattle.console.specs.Flat.{means, settingsOf, settingsIn, positionIn, gives, flatAnswer, flatValue, flatBook}
+use Rattle.flats.specs.declared.FlatPosition.{FlatPosition}
+use Rattle.flats.specs.declared.FlatAnswer.{FlatAnswer}
+use Rattle.flats.specs.declared.FlatValue.{FlatValue}
+use Rattle.flats.specs.declared.FlatBook.{FlatBook}
+use Rattle.flats.specs.Flat.{means, settingsOf, settingsIn, positionIn, gives, flatAnswer, flatValue, flatBook}
 
 -- an outcome: what is answered, and what the lent lists are then, in the order of the call
 pub record Leaves (A : Type 0) : Type 0 where

@@ -1,7 +1,7 @@
 -- `console::lm_read_book` meets its contract.
 use mathlib.Core.Path.{ap, _∙_}
 use borrow.Author.Needs.{needs}
-use Rattle.console.specs.Flat.{flatBook}
+use Rattle.flats.specs.Flat.{flatBook}
 use Rattle.console.proofs.lm_read_book.Statement.{statement}
 use Rattle.console.proofs.lm_read_book.Tie as tie
 

@@ -13,8 +13,8 @@ use Rattle.rules.specs.declared.MouseState.the-variants.{UpUp, UpDown, UpDownNo
 use Rattle.rules.specs.Words.{bit}
 use Rattle.rules.specs.States.{gameNumber, mouseNumber, mouseAt}
 use Rattle.cells.proofs.Words.{and-left, and-right}
-use Rattle.console.specs.declared.FlatPosition.{FlatPosition}
-use Rattle.console.specs.Flat.{gameAt, isOn, means, positionIn, flatOf}
+use Rattle.flats.specs.declared.FlatPosition.{FlatPosition}
+use Rattle.flats.specs.Flat.{gameAt, isOn, means, positionIn, flatOf}
 
 -- ---- a byte at a time ------------------------------------------------------------------------------------------------------------------
 

@@ -1,7 +1,7 @@
--- `console::flat` meets its contract.
+-- `flats::flat` meets its contract.
 use borrow.Author.Needs.{needs}
-use Rattle.console.proofs.flat.Statement.{statement}
-use Rattle.console.proofs.flat.Tie as tie
+use Rattle.flats.proofs.flat.Statement.{statement}
+use Rattle.flats.proofs.flat.Tie as tie
 
 byte-requires : tie.Need-byte-requires
 byte-requires c κs = search needs

@@ -1,11 +1,11 @@
--- `console::read` meets its contract.
+-- `flats::read` meets its contract.
 use mathlib.Core.Path.{sym, _∙_, ap}
 use borrow.Author.Needs.{needs}
 use Rattle.rules.specs.declared.Position.{Position}
 use Rattle.rules.specs.States.{withEvents}
-use Rattle.console.proofs.Making.{read-meant, read-unclear}
-use Rattle.console.proofs.read.Statement.{statement}
-use Rattle.console.proofs.read.Tie as tie
+use Rattle.flats.proofs.Reading.{read-meant, read-unclear}
+use Rattle.flats.proofs.read.Statement.{statement}
+use Rattle.flats.proofs.read.Tie as tie
 
 position-in-requires : tie.Need-position-in-requires
 position-in-requires c κs = search needs

@@ -11,10 +11,10 @@ use Rattle.rules.specs.declared.GameState.{GameState}
 use Rattle.rules.specs.declared.GameState.the-variants.{Ready, Playing, Win, Loss, PreFlaging}
 use Rattle.rules.specs.Words.{pick, bit}
 use Rattle.rules.specs.States.{gameNumber, mouseNumber, mouseAt}
-use Rattle.console.specs.declared.FlatPosition.{FlatPosition}
-use Rattle.console.specs.declared.FlatAnswer.{FlatAnswer}
-use Rattle.console.specs.declared.FlatValue.{FlatValue}
-use Rattle.console.specs.declared.FlatBook.{FlatBook}
+use Rattle.flats.specs.declared.FlatPosition.{FlatPosition}
+use Rattle.flats.specs.declared.FlatAnswer.{FlatAnswer}
+use Rattle.flats.specs.declared.FlatValue.{FlatValue}
+use Rattle.flats.specs.declared.FlatBook.{FlatBook}
 
 -- game states by number: Ready 0, Playing 1, Win 2, Loss 3, PreFlaging 4
 unfoldable pub gameAt : ℕ → GameState

@@ -1,7 +1,7 @@
--- `console::position_in` meets its contract.
+-- `flats::position_in` meets its contract.
 use borrow.Author.Needs.{needs}
-use Rattle.console.proofs.position_in.Statement.{statement}
-use Rattle.console.proofs.position_in.Tie as tie
+use Rattle.flats.proofs.position_in.Statement.{statement}
+use Rattle.flats.proofs.position_in.Tie as tie
 
 settings-of-requires : tie.Need-settings-of-requires
 settings-of-requires c κs = search needs

@@ -1,7 +1,7 @@
--- `console::refused` meets its contract.
+-- `flats::refused` meets its contract.
 use borrow.Author.Needs.{needs}
-use Rattle.console.proofs.refused.Statement.{statement}
-use Rattle.console.proofs.refused.Tie as tie
+use Rattle.flats.proofs.refused.Statement.{statement}
+use Rattle.flats.proofs.refused.Tie as tie
 
 wide-requires : tie.Need-wide-requires
 wide-requires c κs = search needs

@@ -1,8 +1,8 @@
--- `console::game_at` meets its contract.
+-- `flats::game_at` meets its contract.
 use borrow.Author.Tests.{ne-eqb}
-use Rattle.console.specs.Flat.{gameAt}
-use Rattle.console.proofs.game_at.Statement.{statement}
-use Rattle.console.proofs.game_at.Tie as tie
+use Rattle.flats.specs.Flat.{gameAt}
+use Rattle.flats.proofs.game_at.Statement.{statement}
+use Rattle.flats.proofs.game_at.Tie as tie
 
 returns : tie.Need-returns
 unfolding gameAt

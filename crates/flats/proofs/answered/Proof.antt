@@ -1,9 +1,9 @@
--- `console::answered` meets its contract.
+-- `flats::answered` meets its contract.
 use mathlib.Core.Path.{sym, _∙_}
 use borrow.Author.Needs.{needs}
-use Rattle.console.proofs.Making.{answered-meant, answered-unclear}
-use Rattle.console.proofs.answered.Statement.{statement}
-use Rattle.console.proofs.answered.Tie as tie
+use Rattle.flats.proofs.Reading.{answered-meant, answered-unclear}
+use Rattle.flats.proofs.answered.Statement.{statement}
+use Rattle.flats.proofs.answered.Tie as tie
 
 means-requires : tie.Need-means-requires
 means-requires c κs = search needs

@@ -1,7 +1,7 @@
--- `console::flat_answer` meets its contract.
+-- `flats::flat_answer` meets its contract.
 use borrow.Author.Needs.{needs}
-use Rattle.console.proofs.flat_answer.Statement.{statement}
-use Rattle.console.proofs.flat_answer.Tie as tie
+use Rattle.flats.proofs.flat_answer.Statement.{statement}
+use Rattle.flats.proofs.flat_answer.Tie as tie
 
 wide-requires : tie.Need-wide-requires
 wide-requires c κs = search needs

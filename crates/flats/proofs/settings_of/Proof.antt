@@ -1,7 +1,7 @@
--- `console::settings_of` meets its contract.
+-- `flats::settings_of` meets its contract.
 use mathlib.Core.Path.{refl}
-use Rattle.console.proofs.settings_of.Statement.{statement}
-use Rattle.console.proofs.settings_of.Tie as tie
+use Rattle.flats.proofs.settings_of.Statement.{statement}
+use Rattle.flats.proofs.settings_of.Tie as tie
 
 returns : tie.Need-returns
 returns c = refl

@@ -3,9 +3,9 @@ use Rattle.rules.specs.declared.Position.{Position}
 use Rattle.rules.specs.declared.Answer.{Answer}
 use Rattle.rules.specs.Words.{pick}
 use Rattle.rules.specs.States.{withEvents}
-use Rattle.console.specs.declared.FlatPosition.{FlatPosition}
-use Rattle.console.specs.declared.FlatAnswer.{FlatAnswer}
-use Rattle.console.specs.Flat.{means, positionIn, gives, flatAnswer}
+use Rattle.flats.specs.declared.FlatPosition.{FlatPosition}
+use Rattle.flats.specs.declared.FlatAnswer.{FlatAnswer}
+use Rattle.flats.specs.Flat.{means, positionIn, gives, flatAnswer}
 
 -- where a byte means nothing, a position that is not lawful, with the same settings
 unfoldable pub readOf : FlatPosition → Position

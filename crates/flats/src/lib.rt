@@ -1,0 +1,236 @@
+// The flat forms of a position, an answer, a value and a book, which cross into C, and what their bytes mean (specs/Flat.antt).
+// Every byte pattern is taken; a state byte that means nothing makes the position unlawful (specs/Parts.antt).
+ghost use mathlib.Core.Path.{_≡_};
+ghost use Rattle.rules.specs.Words.{bit};
+ghost use Rattle.flats.specs.Flat.{gameAt, means, settingsOf, positionIn, flatOf, gives, flatAnswer, flatBook};
+ghost use Rattle.flats.specs.Parts.{readOf, answeredOf};
+use rules::Answer;
+use rules::Book;
+use rules::Counts;
+use rules::GameState;
+use rules::Position;
+use rules::Secrets;
+use rules::Settings;
+
+// The position, with its states as bytes: 52 bytes without padding, so that a refusal can give every one of them back. The spare byte is 0.
+// `double` is a word of C.
+#[repr(C)]
+pub struct FlatPosition {
+    pub rows: u8,
+    pub columns: u8,
+    pub mode: u8,
+    pub question: u8,
+    pub game: u8,
+    pub mouse: u8,
+    pub middle: u8,
+    pub spare: u8,
+    pub preflags: u32,
+    pub events: u32,
+    pub left: u32,
+    pub right: u32,
+    pub doubles: u32,
+    pub lce: u32,
+    pub dce: u32,
+    pub flag: u32,
+    pub rce: u32,
+    pub solved_left: u32,
+    pub solved_chord: u32,
+}
+
+// What a call on a position answers.
+#[repr(C)]
+pub struct FlatAnswer {
+    pub number: u32,
+    pub position: FlatPosition,
+    pub value: u32,
+}
+
+// What a call without one answers: 8 bytes, which pass in one register on x86-64 and on aarch64.
+#[repr(C)]
+pub struct FlatValue {
+    pub number: u32,
+    pub value: u32,
+}
+
+// What a book says, or its first fault.
+#[repr(C)]
+pub struct FlatBook {
+    pub number: u32,
+    pub rows: u8,
+    pub columns: u8,
+    pub mode: u8,
+    pub question: u8,
+    pub place: usize,
+    pub mines_at: usize,
+    pub mines: usize,
+    pub events_at: usize,
+    pub events: usize,
+}
+
+// ---- what the bytes mean ---------------------------------------------------------------------------------------------------------------
+
+fn game_at(n: u8) -> GameState
+    ensures { λ r. ⌜ r ≡ gameAt n ⌝ }
+{
+    match n {
+        0 => GameState::Ready,
+        1 => GameState::Playing,
+        2 => GameState::Win,
+        3 => GameState::Loss,
+        _ => GameState::PreFlaging,
+    }
+}
+
+fn byte(b: bool) -> u8
+    ensures { λ r. ⌜ r ≡ bit b ⌝ }
+{
+    if b {
+        return 1;
+    }
+    0
+}
+
+pub fn wide(n: u16) -> u32
+    ensures { λ r. ⌜ r ≡ n ⌝ }
+{
+    n as u32
+}
+
+// Does every state byte mean something?
+fn means(f: FlatPosition) -> bool
+    ensures { λ r. ⌜ r ≡ means f ⌝ }
+{
+    (f.question <= 1) & ((f.game <= 4) & ((f.mouse <= 6) & ((f.middle <= 1) & (f.spare == 0))))
+}
+
+pub fn settings_of(rows: u8, columns: u8, mode: u8, question: u8) -> Settings
+    ensures { λ r. ⌜ r ≡ settingsOf rows columns mode question ⌝ }
+{
+    Settings {
+        rows,
+        columns,
+        mode,
+        question: question != 0,
+    }
+}
+
+// The position that the bytes mean; of one that means nothing, the last state.
+pub fn position_in(f: FlatPosition) -> Position
+    ensures { λ r. ⌜ r ≡ positionIn f ⌝ }
+{
+    let settings = settings_of(f.rows, f.columns, f.mode, f.question);
+    let game = game_at(f.game);
+    let mouse = rules::mouse_at(f.mouse);
+    let counts = Counts {
+        left: f.left,
+        right: f.right,
+        double: f.doubles,
+        lce: f.lce,
+        dce: f.dce,
+        flag: f.flag,
+    };
+    let secrets = Secrets {
+        rce: f.rce,
+        solved_left: f.solved_left,
+        solved_chord: f.solved_chord,
+    };
+    Position {
+        settings,
+        game,
+        mouse,
+        middle: f.middle != 0,
+        preflags: f.preflags,
+        events: f.events,
+        counts,
+        secrets,
+    }
+}
+
+// A flat position with a byte that means nothing is read as one of 65,536 events, which no lawful position has: the call then refuses it
+// with 26 in its place, after 20 to 25, and writes nothing.
+pub fn read(f: FlatPosition) -> Position
+    ensures { λ r. ⌜ r ≡ readOf f ⌝ }
+{
+    let p = position_in(f);
+    if means(f) {
+        return p;
+    }
+    p.with_events(65536)
+}
+
+fn flat(p: Position) -> FlatPosition
+    ensures { λ r. ⌜ r ≡ flatOf p ⌝ }
+{
+    let game = p.game;
+    let mouse = p.mouse;
+    FlatPosition {
+        rows: p.settings.rows,
+        columns: p.settings.columns,
+        mode: p.settings.mode,
+        question: byte(p.settings.question),
+        game: rules::game_number(game),
+        mouse: rules::mouse_number(mouse),
+        middle: byte(p.middle),
+        spare: 0,
+        preflags: p.preflags,
+        events: p.events,
+        left: p.counts.left,
+        right: p.counts.right,
+        doubles: p.counts.double,
+        lce: p.counts.lce,
+        dce: p.counts.dce,
+        flag: p.counts.flag,
+        rce: p.secrets.rce,
+        solved_left: p.secrets.solved_left,
+        solved_chord: p.secrets.solved_chord,
+    }
+}
+
+pub fn flat_answer(a: Answer) -> FlatAnswer
+    ensures { λ r. ⌜ r ≡ flatAnswer a ⌝ }
+{
+    let p = a.position;
+    FlatAnswer {
+        number: wide(a.number),
+        position: flat(p),
+        value: a.value,
+    }
+}
+
+// Refusal n gives the flat position back as it was given.
+pub fn refused(n: u16, f: FlatPosition) -> FlatAnswer
+    ensures { λ r. ⌜ r ≡ gives n f 0 ⌝ }
+{
+    FlatAnswer {
+        number: wide(n),
+        position: f,
+        value: 0,
+    }
+}
+
+// What a call on `read(f)` answered, for f.
+pub fn answered(f: FlatPosition, a: Answer) -> FlatAnswer
+    ensures { λ r. ⌜ r ≡ answeredOf f a ⌝ }
+{
+    if means(f) {
+        return flat_answer(a);
+    }
+    refused(a.number, f)
+}
+
+pub fn flat_book(b: Book) -> FlatBook
+    ensures { λ r. ⌜ r ≡ flatBook b ⌝ }
+{
+    FlatBook {
+        number: wide(b.number),
+        rows: b.settings.rows,
+        columns: b.settings.columns,
+        mode: b.settings.mode,
+        question: byte(b.settings.question),
+        place: b.place,
+        mines_at: b.mines_at,
+        mines: b.mines,
+        events_at: b.events_at,
+        events: b.events,
+    }
+}
