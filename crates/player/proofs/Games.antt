@@ -26,9 +26,10 @@ use Rattle.text.specs.Put.{Put, PutWithin, RowsFit}
 use Rattle.text.proofs.Putting.{put-then, put-as, put-length}
 use Rattle.text.proofs.Printed.{printout-played}
 use Rattle.player.specs.declared.Told.{Told}
-use Rattle.player.specs.Printing.{EventsFit, EventsPrinted, Begun}
+use Rattle.printing.specs.Boards.{Begun}
+use Rattle.player.specs.Printing.{EventsFit, EventsPrinted}
 use Rattle.cells.proofs.Filling.{cleared-zeros}
-use Rattle.player.proofs.Beginning.{book-lawful}
+use Rattle.printing.proofs.Beginning.{book-lawful}
 
 -- the text of a game on a board, from a desk
 abbrev gameText : Settings → List ℤ → List ℕ → Desk → List ℕ

@@ -1,5 +1,3 @@
 pub mod Telling
-pub mod Ending
-pub mod Beginning
 pub mod Games
 pub mod Refusing

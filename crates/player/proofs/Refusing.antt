@@ -23,7 +23,8 @@ use Rattle.text.specs.Put.{PutWithin}
 use Rattle.text.specs.Texts.{refusedText}
 use Rattle.text.proofs.Putting.{put-as}
 use Rattle.text.proofs.Printed.{printout-refused}
-use Rattle.player.specs.Printing.{Enough, Fit}
+use Rattle.printing.specs.Boards.{Fit}
+use Rattle.player.specs.Printing.{Enough}
 
 -- ---- the place of a refusal ------------------------------------------------------------------------------------------------------------
 

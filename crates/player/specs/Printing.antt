@@ -1,16 +1,13 @@
 -- What the parts of a printout require of what is lent, and what they ensure.
 use mathlib.Core.Path.{_≡_}
-use mathlib.Core.List.{List, _++_}
+use mathlib.Core.List.{List}
 use Prim.Native.Nat.{ℕ, _+_, _*_, _%_, _≤_}
-use lib.ListN.{length, drop, replicate}
+use lib.ListN.{length}
 use lib.IntN.{ℤ}
-use Rattle.rules.specs.declared.Book.{Book}
 use Rattle.rules.specs.declared.Position.{Position}
-use Rattle.rules.specs.declared.Settings.{Settings}
-use Rattle.rules.specs.Lent.{bitBytes, workRoom}
 use Rattle.rules.specs.Clicks.{desk}
-use Rattle.rules.specs.Calls.{plays, cellsIn}
-use Rattle.rules.specs.Printout.{eventLines, bookBoard}
+use Rattle.rules.specs.Calls.{plays}
+use Rattle.rules.specs.Printout.{eventLines}
 use Rattle.game.specs.Core.{flowOn}
 use Rattle.text.specs.Put.{Put}
 use Rattle.player.specs.declared.Told.{Told}
@@ -27,20 +24,6 @@ pub record EventsPrinted (B : List ℤ) (events : List ℕ) (p : Position) (show
   pub put : Put (eventLines 1 (plays B events (desk p shown bits))) at out out′ (r .at)
   pub short : 3 * r .at ≤ 3 * at + 20 * length events
   pub same : work′ ≡ work
-
--- the boards have the lengths of the settings, and the work its room
-pub record Fit (s : Settings) (mines : List ℤ) (shown bits work : List ℕ) : Type 0 where
-  pub mine : length mines ≡ cellsIn s
-  pub cell : length shown ≡ cellsIn s
-  pub byte : length bits ≡ bitBytes (cellsIn s)
-  pub room : workRoom (cellsIn s) ≤ length work
-
--- the boards of a game that nobody has touched
-pub record Begun (s : List ℕ) (b : Book) (work : List ℕ) (mines : List ℤ) (shown bits work′ : List ℕ) : Type 0 where
-  pub board : mines ≡ bookBoard s b
-  pub closed : shown ≡ replicate (cellsIn (b .settings)) 10
-  pub unset : bits ≡ replicate (bitBytes (cellsIn (b .settings))) 0
-  pub blank : work′ ≡ replicate (workRoom (cellsIn (b .settings))) 0 ++ drop (workRoom (cellsIn (b .settings))) work
 
 -- enough for every book: 2,048 cells, and a printout's room
 pub record Enough (mines : List ℤ) (shown bits work out : List ℕ) : Type 0 where

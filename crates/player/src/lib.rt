@@ -1,41 +1,19 @@
 // A book played and printed: the settings' line, a line for each event, and the end; or the one line of a refused book.
 // The contracts cite rules/specs/Printout.antt; specs/Printing.antt has what is said of the parts.
 ghost use mathlib.Core.Path.{_≡_};
-ghost use mathlib.Core.List.{_∷_, []};
-ghost use Prim.Native.Nat.{_+_, _*_, _<_, _≤_};
+ghost use Prim.Native.Nat.{_<_, _≤_};
 ghost use lib.ListN.{length};
-ghost use Rattle.rules.specs.States.{gameNumber, mouseNumber};
-ghost use Rattle.rules.specs.Judging.{leftToSolve};
 ghost use Rattle.rules.specs.Clicks.{desk};
 ghost use Rattle.rules.specs.Book.{bookOf};
-ghost use Rattle.rules.specs.Printout.{lineOf, endLines, printoutOf};
-ghost use Rattle.cells.specs.Ground.{Mined};
+ghost use Rattle.rules.specs.Printout.{printoutOf};
 ghost use Rattle.keep.specs.Kept.{LawfulAt};
 ghost use Rattle.game.specs.Core.{Blank};
-ghost use Rattle.text.specs.Put.{PutWithin, RowsFit};
-ghost use Rattle.player.specs.Printing.{EventsFit, EventsPrinted, Fit, Begun, Enough};
+ghost use Rattle.text.specs.Put.{PutWithin};
+ghost use Rattle.printing.specs.Boards.{Fit};
+ghost use Rattle.player.specs.Printing.{EventsFit, EventsPrinted, Enough};
 use rules::Book;
 use rules::Played;
 use rules::Position;
-
-fn wide(x: u8) -> usize
-    ensures { λ r. ⌜ r ≡ x ⌝ }
-{
-    x as usize
-}
-
-// The line of a play, accepted or refused.
-fn put_play(out: &mut [u8], at: usize, number: u16, o: Played) -> usize
-    requires { ⌜ at + 20 ≤ length (now out) ⌝ }
-    ensures { λ r. ⌜ PutWithin 20 (lineOf (number ∷ o .answer ∷ gameNumber (o .position .game) ∷ mouseNumber (o .position .mouse) ∷ [])) at (now (out .entry)) (now (out .exit)) r ⌝ }
-{
-    let p = o.position;
-    let g = p.game;
-    let m = p.mouse;
-    let game = rules::game_number(g);
-    let mouse = rules::mouse_number(m);
-    text::put_event_line(out, at, number, o.answer, game, mouse)
-}
 
 // Where the text has come to, and the position that the last event left.
 pub struct Told {
@@ -69,7 +47,7 @@ fn play_events(
     while k < events.len() {
         let q = o.position;
         o = game::step_from(q, events, k, mines, &mut *shown, &mut *bits, &mut *work);
-        place = put_play(&mut *out, place, number, o);
+        place = printing::put_play(&mut *out, place, number, o);
         if 20 <= o.answer {
             let refused = o.position;
             return Told {
@@ -85,58 +63,6 @@ fn play_events(
         at: place,
         position: last,
     }
-}
-
-// The total minus both solved counts, or 0.
-fn left_of(total: u32, left: u32, chord: u32) -> u32
-    ensures { λ r. ⌜ r ≡ leftToSolve total left chord ⌝ }
-{
-    if total < left {
-        return 0;
-    }
-    let rest = total - left;
-    if rest < chord {
-        return 0;
-    }
-    rest - chord
-}
-
-// The counts, the 3BV and the shown rows.
-fn finish(
-    p: Position,
-    mines: &[i8],
-    shown: &[u8],
-    work: &mut [u16],
-    out: &mut [u8],
-    at: usize,
-) -> usize
-    requires { ⌜ Mined (now mines) (p .settings .rows) (p .settings .columns) ⌝ }
-    requires { ⌜ Blank (p .settings) (now work) ⌝ }
-    requires { ⌜ RowsFit (p .settings .rows) (p .settings .columns) (now shown) (at + 131) (now out) ⌝ }
-    ensures { λ r. ⌜ PutWithin (131 + 4 * (p .settings .rows * p .settings .columns)) (endLines (now (mines .entry)) (desk p (now (shown .entry)) [])) at (now (out .entry)) (now (out .exit)) r ⌝ }
-{
-    let rows = wide(p.settings.rows);
-    let columns = wide(p.settings.columns);
-    let cells = judging::total_3bv(mines, &mut *work, rows, columns);
-    let total = cells as u32;
-    let left = left_of(total, p.secrets.solved_left, p.secrets.solved_chord);
-    text::put_end(&mut *out, at, p, total, left, shown)
-}
-
-// The board of a book is numbered, every cell closed, every bit and the work 0.
-fn begin(s: &[u8], b: Book, mines: &mut [i8], shown: &mut [u8], bits: &mut [u8], work: &mut [u16])
-    requires { ⌜ (b ≡ bookOf (now s)) × (b .number ≡ 0) ⌝ }
-    requires { ⌜ Fit (b .settings) (now mines) (now shown) (now bits) (now work) ⌝ }
-    ensures { λ _. ⌜ Begun (now (s .entry)) b (now (work .entry)) (now (mines .exit)) (now (shown .exit)) (now (bits .exit)) (now (work .exit)) ⌝ }
-{
-    let rows = b.settings.rows;
-    let columns = b.settings.columns;
-    let list = book::mines(s, b);
-    boards::number_mines(rows, columns, list, &mut *mines);
-    cells::fill(&mut *shown, 10);
-    cells::fill(&mut *bits, 0);
-    let cells = boards::cell_count(rows, columns);
-    cells::clear(&mut *work, 8 * cells + 8);
 }
 
 // An accepted book, on boards of its size.
@@ -155,7 +81,7 @@ fn print_game(
     ensures { λ r. ⌜ PutWithin 172184 (printoutOf (now (s .entry))) 0 (now (out .entry)) (now (out .exit)) r ⌝ }
 {
     let settings = b.settings;
-    begin(s, b, &mut *mines, &mut *shown, &mut *bits, &mut *work);
+    printing::begin(s, b, &mut *mines, &mut *shown, &mut *bits, &mut *work);
     let p = rules::fresh(settings);
     let first = text::put_game_line(&mut *out, 0, settings);
     let events = book::events(s, b);
@@ -170,7 +96,7 @@ fn print_game(
         first,
     );
     let q = t.position;
-    finish(q, &*mines, &*shown, &mut *work, &mut *out, t.at)
+    printing::finish(q, &*mines, &*shown, &mut *work, &mut *out, t.at)
 }
 
 // The printout of a byte string, from the front of `out`; the answer is how many bytes it has.

@@ -1,8 +1,8 @@
--- `player::begin` meets its contract: the book's mine list is refused on no board of its size, and every list is filled.
+-- `printing::begin` meets its contract: the book's mine list is refused on no board of its size, and every list is filled.
 use borrow.Author.Needs.{needs}
-use Rattle.player.proofs.Beginning.{begun}
-use Rattle.player.proofs.begin.Statement.{statement}
-use Rattle.player.proofs.begin.Tie as tie
+use Rattle.printing.proofs.Beginning.{begun}
+use Rattle.printing.proofs.begin.Statement.{statement}
+use Rattle.printing.proofs.begin.Tie as tie
 
 mines-requires : tie.Need-mines-requires
 mines-requires c κs = search needs

@@ -1,8 +1,8 @@
--- `player::put_play` meets its contract.
+-- `printing::put_play` meets its contract.
 use borrow.Author.Needs.{needs}
-use Rattle.player.proofs.Ending.{play-line}
-use Rattle.player.proofs.put_play.Statement.{statement}
-use Rattle.player.proofs.put_play.Tie as tie
+use Rattle.printing.proofs.Ending.{play-line}
+use Rattle.printing.proofs.put_play.Statement.{statement}
+use Rattle.printing.proofs.put_play.Tie as tie
 
 game-number-requires : tie.Need-game-number-requires
 game-number-requires c κs = search needs

@@ -1,9 +1,9 @@
--- `player::finish` meets its contract: the total is that of the board, and left to solve comes from it.
+-- `printing::finish` meets its contract: the total is that of the board, and left to solve comes from it.
 use native.Mathlib.Omega.{arith}
 use borrow.Author.Needs.{needs}
-use Rattle.player.proofs.Ending.{ending-asks, ending-small, ending-put}
-use Rattle.player.proofs.finish.Statement.{statement}
-use Rattle.player.proofs.finish.Tie as tie
+use Rattle.printing.proofs.Ending.{ending-asks, ending-small, ending-put}
+use Rattle.printing.proofs.finish.Statement.{statement}
+use Rattle.printing.proofs.finish.Tie as tie
 
 wide-requires : tie.Need-wide-requires
 wide-requires c κs = search needs

@@ -23,7 +23,7 @@ use Rattle.boards.proofs.Numbering.{numbered-accepted}
 use Rattle.book.specs.Parts.{partOf}
 use Rattle.book.proofs.Accepting.{mines-part}
 use Rattle.book.proofs.Book.{accepted-numbers}
-use Rattle.player.specs.Printing.{Fit, Begun}
+use Rattle.printing.specs.Boards.{Fit, Begun}
 
 numbered-cells : (R C : ℕ) (ms : List ℕ) → length (numbered R C ms) ≡ R * C
 unfolding numbered

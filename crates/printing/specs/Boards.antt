@@ -1,0 +1,25 @@
+-- The boards that a book is played on: their lengths, and how a game begins on them.
+use mathlib.Core.Path.{_≡_}
+use mathlib.Core.List.{List, _++_}
+use Prim.Native.Nat.{ℕ, _≤_}
+use lib.ListN.{length, drop, replicate}
+use lib.IntN.{ℤ}
+use Rattle.rules.specs.declared.Book.{Book}
+use Rattle.rules.specs.declared.Settings.{Settings}
+use Rattle.rules.specs.Lent.{bitBytes, workRoom}
+use Rattle.rules.specs.Calls.{cellsIn}
+use Rattle.rules.specs.Printout.{bookBoard}
+
+-- the boards have the lengths of the settings, and the work its room
+pub record Fit (s : Settings) (mines : List ℤ) (shown bits work : List ℕ) : Type 0 where
+  pub mine : length mines ≡ cellsIn s
+  pub cell : length shown ≡ cellsIn s
+  pub byte : length bits ≡ bitBytes (cellsIn s)
+  pub room : workRoom (cellsIn s) ≤ length work
+
+-- the boards of a game that nobody has touched
+pub record Begun (s : List ℕ) (b : Book) (work : List ℕ) (mines : List ℤ) (shown bits work′ : List ℕ) : Type 0 where
+  pub board : mines ≡ bookBoard s b
+  pub closed : shown ≡ replicate (cellsIn (b .settings)) 10
+  pub unset : bits ≡ replicate (bitBytes (cellsIn (b .settings))) 0
+  pub blank : work′ ≡ replicate (workRoom (cellsIn (b .settings))) 0 ++ drop (workRoom (cellsIn (b .settings))) work
