@@ -31,7 +31,7 @@ use Rattle.keep.proofs.Passes.{playing-is}
 use Rattle.keep.proofs.Reshow.{flag-has}
 use Rattle.keep.proofs.Room.{sound-small, preflags-has}
 use Rattle.keep.proofs.Step.{event-inside}
-use Rattle.events.specs.Able.{AbleAt, button}
+use Rattle.buttons.specs.Able.{AbleAt, button}
 use Rattle.game.specs.Core.{Blank}
 
 -- an 11 is shown on the board only

@@ -10,7 +10,7 @@ ghost use Rattle.rules.specs.States.{isPlaying, withEvents};
 ghost use Rattle.rules.specs.Clicks.{desk};
 ghost use Rattle.rules.specs.Step.{playAt, stepOn};
 ghost use Rattle.keep.specs.Kept.{Inside, LawfulAt};
-ghost use Rattle.events.specs.Able.{Plays};
+ghost use Rattle.buttons.specs.Able.{Plays};
 ghost use Rattle.game.specs.Core.{Blank, refusalOn, moveAt, Moves, flowOn};
 use rules::Decoded;
 use rules::GameState;
@@ -90,7 +90,7 @@ fn press(
     ensures { λ r. ⌜ Plays (playAt (now (mines .entry)) code x) p (now (shown .entry)) (now (bits .entry)) (now (work .entry)) r (now (shown .exit)) (now (bits .exit)) (now (work .exit)) ⌝ }
 {
     let n = p.events + 1;
-    let mut o = events::play_button(p, code, x, mines, &mut *shown, &mut *bits, &mut *work);
+    let mut o = playing::play_button(p, code, x, mines, &mut *shown, &mut *bits, &mut *work);
     o.position.events = n;
     o
 }

@@ -16,7 +16,7 @@ use Rattle.rules.specs.Clicks.{Desk, Play, desk}
 use Rattle.rules.specs.Calls.{plays}
 use Rattle.rules.specs.Printout.{eventLine, eventLines}
 use Rattle.keep.specs.Kept.{LawfulAt}
-use Rattle.events.specs.Able.{Plays}
+use Rattle.buttons.specs.Able.{Plays}
 use Rattle.game.proofs.Flows.{Flowing, held, three, eventAt, flow-on, flow-refused, flow-cells, flow-bytes, flow-start, flow-end, event-left}
 use Rattle.text.specs.Put.{PutWithin}
 use Rattle.text.proofs.Putting.{Leads, leads-start, leads-turn, leads-done}

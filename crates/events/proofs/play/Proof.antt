@@ -1,6 +1,6 @@
 -- `events::play` meets its contract.
 use borrow.Author.Needs.{needs}
-use Rattle.events.proofs.Plays.{plays-by, plays-here}
+use Rattle.buttons.proofs.Plays.{plays-by, plays-here}
 use Rattle.rules.specs.Step.{byGame}
 use Rattle.events.proofs.play.Statement.{statement}
 use Rattle.events.proofs.play.Tie as tie

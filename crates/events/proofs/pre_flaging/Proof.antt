@@ -1,6 +1,6 @@
 -- `events::pre_flaging` meets its contract.
 use borrow.Author.Needs.{needs}
-use Rattle.events.proofs.Plays.{plays-by, plays-here, inside-event}
+use Rattle.buttons.proofs.Plays.{plays-by, plays-here, inside-event}
 use Rattle.rules.specs.Step.{preFlaging}
 use Rattle.events.proofs.pre_flaging.Statement.{statement}
 use Rattle.events.proofs.pre_flaging.Tie as tie

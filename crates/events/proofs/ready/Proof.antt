@@ -1,6 +1,6 @@
 -- `events::ready` meets its contract.
 use borrow.Author.Needs.{needs}
-use Rattle.events.proofs.Plays.{plays-by, plays-here, inside-event}
+use Rattle.buttons.proofs.Plays.{plays-by, plays-here, inside-event}
 use Rattle.rules.specs.Step.{ready}
 use Rattle.events.proofs.ready.Statement.{statement}
 use Rattle.events.proofs.ready.Tie as tie

@@ -1,7 +1,7 @@
 -- `game::step_on` meets its contract.
 use mathlib.Core.Path.{_∙_, sym, refl}
 use native.Mathlib.Omega.{arith}
-use Rattle.events.proofs.Plays.{plays-by, plays-here}
+use Rattle.buttons.proofs.Plays.{plays-by, plays-here}
 use Rattle.keep.proofs.Step.{pointer-inside}
 use Rattle.game.proofs.Steps.{step-bad, step-full, step-refused, step-played, step-moved, button-accepted}
 use borrow.Author.Needs.{needs}
