@@ -2,7 +2,6 @@
 use mathlib.Core.Path.{_≡_}
 use mathlib.Core.List.{List}
 use Prim.Native.Nat.{ℕ, _+_, _*_, _≤_}
-use lib.Dec.{eqb}
 use lib.ListN.{length, getD}
 use lib.IntN.{ℤ}
 use Rattle.rules.specs.declared.Position.{Position}
@@ -10,11 +9,8 @@ use Rattle.rules.specs.declared.Settings.{Settings}
 use Rattle.rules.specs.declared.Counts.{Counts}
 use Rattle.rules.specs.declared.Secrets.{Secrets}
 use Rattle.rules.specs.declared.Played.{Played}
-use Rattle.rules.specs.declared.Pointer.{Pointer}
-use Rattle.rules.specs.Words.{pick}
 use Rattle.rules.specs.Lent.{bitBytes, workRoom}
 use Rattle.rules.specs.Clicks.{Desk, Play, desk, done}
-use Rattle.rules.specs.Step.{playLc, playLr, playRc, playRr}
 use Rattle.cells.specs.Ground.{Fitting, Zeros}
 use Rattle.clicks.specs.Room.{closedIn}
 
@@ -41,7 +37,3 @@ AbleAt B p shown bits work = Able B (p .settings) (p .counts) (p .secrets) shown
 pub record Plays (f : Desk → Play) (p : Position) (shown bits work : List ℕ) (r : Played) (shown′ bits′ work′ : List ℕ) : Type 0 where
   pub outcome : done (r .answer) (desk (r .position) shown′ bits′) ≡ f (desk p shown bits)
   pub same : work′ ≡ work
-
--- a button event while Playing, by its code
-abbrev pub button : List ℤ → ℕ → Pointer → Desk → Play
-button B code x d = pick (eqb code 0) (playLc x d) (pick (eqb code 1) (playLr B x d) (pick (eqb code 2) (playRc B x d) (playRr B x d)))

@@ -1,23 +1,21 @@
 -- The win test in two parts: from a place to the end, and from the beginning to that place.
-use mathlib.Core.Path.{_≡_, sym, refl}
-use mathlib.Core.Bool.{Bool, true, false, _||_, true≢false, false≢true}
+use mathlib.Core.Path.{_≡_, _∙_, sym, refl, subst}
+use mathlib.Core.Bool.{Bool, true, false, _&&_, true≢false, false≢true}
 use mathlib.Core.List.{List}
-use Prim.Native.Nat.{ℕ, _+_, _<_, _≤_}
+use Prim.Native.Nat.{ℕ, suc, _+_, _-_, _<_, _≤_}
 use native.Mathlib.Omega.{arith}
 use native.Mathlib.Decide.{decLt}
 use lib.ListN.{length}
 use lib.IntN.{ℤ}
+use Rattle.rules.specs.Words.{every}
 use Rattle.rules.specs.Clicks.{doneAt, isWon}
-use Rattle.cells.proofs.Words.{every-all, every-fails}
+use Rattle.cells.proofs.Words.{every-all, every-at, every-fails}
 use Rattle.clicks.specs.Room.{DoneBetween}
 
-pub or-right : (a b : Bool) → b ≡ true → true ≡ (a || b)
-or-right true b e = refl
-or-right false b e = sym e
-
-pub or-left : (a b : Bool) → b ≡ false → a ≡ (a || b)
-or-left true b e = refl
-or-left false b e = sym e
+-- one place more
+pub every-more : (p : ℕ → Bool) (k : ℕ) (all one : Bool) → all ≡ every p k → one ≡ p k → (all && one) ≡ every p (k + 1)
+unfolding every
+every-more p k all one a e = let s : k + 1 ≡ suc k = omega arith in rw (s, a, e) refl
 
 module _ (B : List ℤ) (shown : List ℕ) where
   -- what the loop has passed
@@ -30,6 +28,29 @@ module _ (B : List ℤ) (shown : List ℕ) where
       go : Dec (k < i) → doneAt B shown k ≡ true
       go (yes lt) = h k l lt
       go (no ge) = let q : k ≡ i = omega arith in rw q e
+
+  -- sixteen places more
+  pub passed-sixteen : (from i : ℕ) → Passed from i → every (λ (k : ℕ). doneAt B shown (i + k)) 16 ≡ true → Passed from (i + 16)
+  passed-sixteen from i h e k l m = go (decLt k i)
+    where
+      go : Dec (k < i) → doneAt B shown k ≡ true
+      go (yes lt) = h k l lt
+      go (no ge) =
+          let q : i + (k - i) ≡ k = omega arith in
+          subst (λ (j : ℕ). doneAt B shown j ≡ true) q (every-at (λ (j : ℕ). doneAt B shown (i + j)) 16 e (k - i) (omega arith))
+
+  -- among sixteen some is not done
+  pub sixteen-no : (from to i : ℕ) → i + 16 ≤ to → every (λ (k : ℕ). doneAt B shown (i + k)) 16 ≡ false → DoneBetween B shown from to false
+  sixteen-no from to i h e =
+      record {
+        yes = λ f. absurd (false≢true f);
+        no = λ _ n l. go n l (every (doneAt B shown) n) refl;
+      }
+    where
+      go : (n : ℕ) → to ≤ n → (b : Bool) → every (doneAt B shown) n ≡ b → every (doneAt B shown) n ≡ false
+      go n l false w = w
+      go n l true w =
+          absurd (false≢true (sym e ∙ every-all (λ (k : ℕ). doneAt B shown (i + k)) 16 (λ k m. every-at (doneAt B shown) n w (i + k) (omega arith))))
 
   pub between-no : (from to i : ℕ) → i < to → doneAt B shown i ≡ false → DoneBetween B shown from to false
   between-no from to i h e = record { yes = λ f. absurd (false≢true f); no = λ _ n l. every-fails (doneAt B shown) n i (omega arith) e }

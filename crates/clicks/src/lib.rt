@@ -3,9 +3,9 @@
 ghost use mathlib.Core.Path.{_≡_};
 ghost use mathlib.Core.Bool.{true};
 ghost use mathlib.Core.List.{List, [], _∷_};
-ghost use Prim.Native.Nat.{ℕ, _*_, _/_, _<_, _≤_};
+ghost use Prim.Native.Nat.{ℕ, _+_, _*_, _/_, _<_, _≤_};
 ghost use lib.ListN.{length, getD};
-ghost use Rattle.rules.specs.Words.{pick, bit, stackOf};
+ghost use Rattle.rules.specs.Words.{every, pick, bit, stackOf};
 ghost use Rattle.rules.specs.Grid.{cellOf};
 ghost use Rattle.rules.specs.Board.{faceAt};
 ghost use Rattle.rules.specs.Opening.{closedAt};
@@ -27,21 +27,39 @@ fn done_at(mines: &[i8], shown: &[u8], i: usize) -> bool
     requires { ⌜ Valued (now mines) ⌝ }
     ensures { λ r. ⌜ r ≡ doneAt (now (mines .entry)) (now (shown .entry)) i ⌝ }
 {
-    if shown[i] < 10 {
-        return true;
-    }
     let f = cells::face_at(mines, i);
-    f == 15
+    (f == 15) | (shown[i] < 10)
 }
 
-// The cells from one place up to another are done; the scan stops at the first that is not.
+// Sixteen cells from a place on are done. There is no branch, so that the compiler lets it take them at once.
+fn done_sixteen(mines: &[i8], shown: &[u8], from: usize) -> bool
+    requires { ⌜ length (now mines) ≡ length (now shown) ⌝ }
+    requires { ⌜ Valued (now mines) ⌝ }
+    requires { ⌜ from + 16 ≤ length (now shown) ⌝ }
+    ensures { λ r. ⌜ r ≡ every (λ (k : ℕ). doneAt (now (mines .entry)) (now (shown .entry)) (from + k)) 16 ⌝ }
+{
+    let mut all = true;
+    for k in 0..16 {
+        let d = done_at(mines, shown, from + k);
+        all = all & d;
+    }
+    all
+}
+
+// The cells from one place up to another are done; the scan stops where some are not.
 fn done_between(mines: &[i8], shown: &[u8], from: usize, to: usize) -> bool
     requires { ⌜ length (now mines) ≡ length (now shown) ⌝ }
     requires { ⌜ Valued (now mines) ⌝ }
-    requires { ⌜ to ≤ length (now shown) ⌝ }
+    requires { ⌜ (from ≤ to) × (to ≤ length (now shown)) ⌝ }
     ensures { λ r. ⌜ DoneBetween (now (mines .entry)) (now (shown .entry)) from to r ⌝ }
 {
     let mut i = from;
+    while i + 16 <= to {
+        if !done_sixteen(mines, shown, i) {
+            return false;
+        }
+        i += 16;
+    }
     while i < to {
         let d = done_at(mines, shown, i);
         if !d {
@@ -53,7 +71,7 @@ fn done_between(mines: &[i8], shown: &[u8], from: usize, to: usize) -> bool
 }
 
 // No safe cell is left. The scan begins near the cell that was opened, since a closed one is mostly there.
-fn is_win_near(mines: &[i8], shown: &[u8], near: usize) -> bool
+pub fn is_win_near(mines: &[i8], shown: &[u8], near: usize) -> bool
     requires { ⌜ length (now mines) ≡ length (now shown) ⌝ }
     requires { ⌜ Valued (now mines) ⌝ }
     requires { ⌜ near ≤ length (now shown) ⌝ }
@@ -138,7 +156,7 @@ fn open_cells(
 // ---- left ------------------------------------------------------------------------------------------------------------------------------
 
 // 1 for yes, 0 for no.
-fn one_if(b: bool) -> u32
+pub fn one_if(b: bool) -> u32
     ensures { λ r. ⌜ (r ≡ bit b) × (r ≤ 1) ⌝ }
 {
     if b {
@@ -200,7 +218,7 @@ fn only(cell: usize) -> Cells
     }
 }
 
-fn is_number(face: u8) -> bool
+pub fn is_number(face: u8) -> bool
     ensures { λ r. ⌜ (r ≡ true → (face ≡ 0 → ⊥) × (face ≡ 15 → ⊥)) ⌝ }
 {
     if face == 0 {

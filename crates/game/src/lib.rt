@@ -1,17 +1,17 @@
 // The game's core: one event on a lawful position, and a row of events. Nothing is tested here that the lawful position gives.
 // The contracts cite rules' Step and Calls, and specs/Core; `keep` gives that every step leaves what the next one asks.
 ghost use mathlib.Core.Path.{_≡_};
-ghost use mathlib.Core.Bool.{true, _&&_};
+ghost use mathlib.Core.Bool.{true};
 ghost use mathlib.Core.List.{List};
 ghost use Prim.Native.Nat.{ℕ, _+_, _%_, _≤_};
-ghost use lib.Dec.{ltb};
 ghost use lib.ListN.{length, getD};
-ghost use Rattle.rules.specs.States.{isPlaying, withEvents};
+ghost use Rattle.rules.specs.States.{withEvents};
 ghost use Rattle.rules.specs.Clicks.{desk};
 ghost use Rattle.rules.specs.Step.{playAt, stepOn};
 ghost use Rattle.keep.specs.Kept.{Inside, LawfulAt};
 ghost use Rattle.buttons.specs.Able.{Plays};
 ghost use Rattle.game.specs.Core.{Blank, refusalOn, moveAt, Moves, flowOn};
+use brief::Brief;
 use rules::Decoded;
 use rules::GameState;
 use rules::Played;
@@ -60,41 +60,6 @@ fn count_moves(p: Position, n: u32) -> Played
     }
 }
 
-// A button event while Playing is what its code says, and nothing refuses it.
-fn is_button(g: GameState, code: u8) -> bool
-    ensures { λ r. ⌜ r ≡ (isPlaying g && ltb code 4) ⌝ }
-{
-    match g {
-        GameState::Ready => false,
-        GameState::Playing => code < 4,
-        GameState::Win => false,
-        GameState::Loss => false,
-        GameState::PreFlaging => false,
-    }
-}
-
-// A button event while Playing, played and counted.
-fn press(
-    p: Position,
-    code: u8,
-    x: Pointer,
-    mines: &[i8],
-    shown: &mut [u8],
-    bits: &mut [u8],
-    work: &mut [u16],
-) -> Played
-    requires { ⌜ LawfulAt (now mines) (desk p (now shown) (now bits)) ⌝ }
-    requires { ⌜ Blank (p .settings) (now work) ⌝ }
-    requires { ⌜ Inside (p .settings) x ⌝ }
-    requires { ⌜ (isPlaying (p .game) && ltb code 4) ≡ true ⌝ }
-    ensures { λ r. ⌜ Plays (playAt (now (mines .entry)) code x) p (now (shown .entry)) (now (bits .entry)) (now (work .entry)) r (now (shown .exit)) (now (bits .exit)) (now (work .exit)) ⌝ }
-{
-    let n = p.events + 1;
-    let mut o = playing::play_button(p, code, x, mines, &mut *shown, &mut *bits, &mut *work);
-    o.position.events = n;
-    o
-}
-
 // One event on a lawful position, with the work lent as zeros: 30 to 33, or the event.
 pub fn step_on(
     p: Position,
@@ -125,10 +90,6 @@ pub fn step_on(
     }
     if code == 4 {
         return count_moves(p, 1);
-    }
-    let game = p.game;
-    if is_button(game, code) {
-        return press(p, code, x, mines, &mut *shown, &mut *bits, &mut *work);
     }
     let n = mouse::refusal_at(p, &*shown, code, x);
     if n != 0 {
@@ -179,6 +140,51 @@ pub fn step_from(
         &mut *bits,
         &mut *work,
     )
+}
+
+// The same, for the loop below. What is brief is played here, so that the loop keeps its position at hand; any other event gets a copy, since
+// a position that is handed on must lie in memory.
+fn next_event(
+    p: Position,
+    events: &[u8],
+    at: usize,
+    mines: &[i8],
+    shown: &mut [u8],
+    bits: &mut [u8],
+    work: &mut [u16],
+) -> Played
+    requires { ⌜ LawfulAt (now mines) (desk p (now shown) (now bits)) ⌝ }
+    requires { ⌜ Blank (p .settings) (now work) ⌝ }
+    requires { ⌜ at + 3 ≤ length (now events) ⌝ }
+    ensures { λ r. ⌜ Plays (stepOn (now (mines .entry)) (getD (now (events .entry)) at 0) (getD (now (events .entry)) (at + 1) 0) (getD (now (events .entry)) (at + 2) 0)) p (now (shown .entry)) (now (bits .entry)) (now (work .entry)) r (now (shown .exit)) (now (bits .exit)) (now (work .exit)) ⌝ }
+{
+    let code = events[at];
+    let row = events[at + 1];
+    let column = events[at + 2];
+    match brief::play_brief(p, code, row, column, mines, &mut *shown, &mut *bits) {
+        Brief::Done(o) => {
+            let n = p.events + 1;
+            let q = o.position;
+            let position = q.with_events(n);
+            Played {
+                answer: o.answer,
+                position,
+            }
+        }
+        Brief::Other => {
+            let q = p;
+            step_on(
+                q,
+                code,
+                row,
+                column,
+                mines,
+                &mut *shown,
+                &mut *bits,
+                &mut *work,
+            )
+        }
+    }
 }
 
 // The event at a place is a move that its pointer does not refuse.
@@ -243,7 +249,7 @@ pub fn flow(
             o = count_moves(q, n);
             at += 3 * (n as usize);
         } else {
-            o = step_from(q, events, at, mines, &mut *shown, &mut *bits, &mut *work);
+            o = next_event(q, events, at, mines, &mut *shown, &mut *bits, &mut *work);
             if 20 <= o.answer {
                 return o;
             }

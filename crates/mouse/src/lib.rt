@@ -146,7 +146,7 @@ pub fn seen_at(p: Position, shown: &[u8], x: Pointer) -> u8
     }
 }
 
-fn within(row: u8, rows: u8, column: u8, columns: u8) -> bool
+pub fn within(row: u8, rows: u8, column: u8, columns: u8) -> bool
     ensures { λ r. ⌜ r ≡ (ltb row rows && ltb column columns) ⌝ }
 {
     if row < rows {

@@ -10,10 +10,9 @@ use Rattle.rules.specs.declared.Pointer.{Pointer}
 use Rattle.rules.specs.declared.Event.the-variants.{Mr}
 use Rattle.rules.specs.declared.MouseState.the-variants.{UpDownNotFlag}
 use Rattle.rules.specs.States.{mouseNumber, withMouse, withMiddle}
-use Rattle.rules.specs.Clicks.{Desk, desk, done}
+use Rattle.rules.specs.Clicks.{desk, done}
 use Rattle.rules.specs.Mouse.{moved}
-use Rattle.rules.specs.Step.{seenAt, rightAt, chordAt, playLc, playLr, playRc, playRr, playing}
-use Rattle.buttons.specs.Able.{button}
+use Rattle.rules.specs.Step.{seenAt, rightAt, chordAt, playRc, playing}
 
 module _ (B : List ℤ) (x : Pointer) (p q : Position) (shown bits : List ℕ) where
   module _ (m : ℕ) (em : m ≡ mouseNumber (p .mouse)) where
@@ -32,17 +31,3 @@ module _ (B : List ℤ) (x : Pointer) (p q : Position) (shown bits : List ℕ) w
   pub play-mr-chord : q ≡ withMiddle p false → playing B (Mr x) (desk p shown bits) ≡ chordAt B x (desk q shown bits)
   unfolding playing
   play-mr-chord h = rw h
-
--- a button event by its code
-module _ (B : List ℤ) (x : Pointer) (code : ℕ) (d : Desk) where
-  pub button-lc : code ≡ 0 → button B code x d ≡ playLc x d
-  button-lc a = rw (eq-eqb code 0 a)
-
-  pub button-lr : (code ≡ 0 → ⊥) → code ≡ 1 → button B code x d ≡ playLr B x d
-  button-lr a b = rw (ne-eqb code 0 a, eq-eqb code 1 b)
-
-  pub button-rc : (code ≡ 0 → ⊥) → (code ≡ 1 → ⊥) → code ≡ 2 → button B code x d ≡ playRc B x d
-  button-rc a b e = rw (ne-eqb code 0 a, ne-eqb code 1 b, eq-eqb code 2 e)
-
-  pub button-rr : (code ≡ 0 → ⊥) → (code ≡ 1 → ⊥) → (code ≡ 2 → ⊥) → button B code x d ≡ playRr B x d
-  button-rr a b e = rw (ne-eqb code 0 a, ne-eqb code 1 b, ne-eqb code 2 e)

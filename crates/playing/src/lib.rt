@@ -5,7 +5,7 @@ ghost use Prim.Native.Nat.{_≤_};
 ghost use Rattle.rules.specs.States.{mouseNumber};
 ghost use Rattle.rules.specs.Step.{playing as playingOf, playRc};
 ghost use Rattle.keep.specs.Kept.{Inside, InsideOf};
-ghost use Rattle.buttons.specs.Able.{AbleAt, Plays, button};
+ghost use Rattle.buttons.specs.Able.{AbleAt, Plays};
 use rules::Event;
 use rules::MouseState;
 use rules::Played;
@@ -13,7 +13,7 @@ use rules::Pointer;
 use rules::Position;
 
 // From UpUp a right click; with nothing to flag to UpDownNotFlag.
-pub fn play_rc(
+fn play_rc(
     p: Position,
     x: Pointer,
     mines: &[i8],
@@ -43,7 +43,7 @@ pub fn play_rc(
     buttons::right_at(q, x, mines, &mut *shown, &mut *bits, &mut *work)
 }
 
-pub fn play_mr(
+fn play_mr(
     p: Position,
     x: Pointer,
     mines: &[i8],
@@ -57,33 +57,6 @@ pub fn play_mr(
 {
     let q = p.with_middle(false);
     buttons::chord_at(q, x, mines, &mut *shown, &mut *bits, &mut *work)
-}
-
-// A button event by its code: lc, lr, rc or rr.
-pub fn play_button(
-    p: Position,
-    code: u8,
-    x: Pointer,
-    mines: &[i8],
-    shown: &mut [u8],
-    bits: &mut [u8],
-    work: &mut [u16],
-) -> Played
-    requires { ⌜ AbleAt (now mines) p (now shown) (now bits) (now work) ⌝ }
-    requires { ⌜ Inside (p .settings) x ⌝ }
-    requires { ⌜ (mouseNumber (p .mouse) ≡ 5 → 1 ≤ p .counts .right) ⌝ }
-    ensures { λ r. ⌜ Plays (button (now (mines .entry)) code x) p (now (shown .entry)) (now (bits .entry)) (now (work .entry)) r (now (shown .exit)) (now (bits .exit)) (now (work .exit)) ⌝ }
-{
-    if code == 0 {
-        return buttons::play_lc(p, x);
-    }
-    if code == 1 {
-        return buttons::play_lr(p, x, mines, &mut *shown, &mut *bits, &mut *work);
-    }
-    if code == 2 {
-        return play_rc(p, x, mines, &mut *shown, &mut *bits, &mut *work);
-    }
-    buttons::play_rr(p, x, mines, &mut *shown, &mut *bits, &mut *work)
 }
 
 pub fn playing(

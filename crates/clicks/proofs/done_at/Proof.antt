@@ -1,25 +1,21 @@
 -- `clicks::done_at` meets its contract.
-use mathlib.Core.Path.{_∙_, ap}
-use borrow.Author.Tests.{lt-ltb, le-ltb}
+use mathlib.Core.Path.{ap}
+use mathlib.Core.Bool.{_||_}
 use Prim.Native.Nat.{ℕ}
-use lib.Dec.{eqb}
+use lib.Dec.{ltb, eqb}
+use lib.ListN.{getD}
 use borrow.Author.Needs.{needs}
-use Rattle.rules.specs.Board.{mineAt}
-use Rattle.clicks.proofs.Winning.{or-right, or-left}
 use Rattle.clicks.proofs.done_at.Statement.{statement}
 use Rattle.clicks.proofs.done_at.Tie as tie
-
-shared-slice-read-if1 : tie.Need-shared-slice-read-if1
-shared-slice-read-if1 c = search needs
-
-returns : tie.Need-returns
-returns c = or-right (mineAt (c .before .before .before .args .mines .now) (c .before .before .before .args .i)) _ (lt-ltb _ _ (c .if1 .taken))
 
 face-at-requires : tie.Need-face-at-requires
 face-at-requires c κs = search needs
 
-returns-2 : tie.Need-returns-2
-returns-2 c = ap (λ (f : ℕ). eqb f 15) (c .face-at .ensures) ∙ or-left (mineAt (c .before .before .before .before .args .mines .now) (c .before .before .before .before .args .i)) _ (le-ltb _ _ (c .before .if1 .left))
+shared-slice-read-result : tie.Need-shared-slice-read-result
+shared-slice-read-result c = search needs
+
+returns : tie.Need-returns
+returns c = ap (λ (f : ℕ). eqb f 15 || ltb (getD (c .before .before .before .args .shown .now) (c .before .before .before .args .i) 0) 10) (c .before .face-at .ensures)
 
 pub done-at-spec : {M : Type 1} → statement M
-done-at-spec = tie.close (tie.spec shared-slice-read-if1 returns face-at-requires returns-2)
+done-at-spec = tie.close (tie.spec face-at-requires shared-slice-read-result returns)

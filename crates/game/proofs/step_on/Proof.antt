@@ -1,9 +1,8 @@
 -- `game::step_on` meets its contract.
-use mathlib.Core.Path.{_∙_, sym, refl}
-use native.Mathlib.Omega.{arith}
+use mathlib.Core.Path.{_∙_, sym}
 use Rattle.buttons.proofs.Plays.{plays-by, plays-here}
 use Rattle.keep.proofs.Step.{pointer-inside}
-use Rattle.game.proofs.Steps.{step-bad, step-full, step-refused, step-played, step-moved, button-accepted}
+use Rattle.game.proofs.Steps.{step-bad, step-full, step-refused, step-played, step-moved}
 use borrow.Author.Needs.{needs}
 use Rattle.game.proofs.step_on.Statement.{statement}
 use Rattle.game.proofs.step_on.Tie as tie
@@ -24,19 +23,22 @@ returns-2 : tie.Need-returns-2
 returns-2 c = plays-here (step-full _ (c .before .before .before .before .before .before .before .before .before .before .args .code) (c .before .before .before .before .before .before .before .before .before .before .args .row) (c .before .before .before .before .before .before .before .before .before .before .args .column) (c .before .before .before .before .before .before .before .before .before .before .args .p) _ _ _ (c .before .before .before .before .before .decode .ensures) _ (c .before .before .before .x .given .1) (c .if1 .taken))
 
 count-moves-requires : tie.Need-count-moves-requires
-count-moves-requires c κs = omega (arith, c .before .if1 .left)
+count-moves-requires c κs = search needs
 
 returns-3 : tie.Need-returns-3
 returns-3 c = plays-here (step-moved _ (c .before .before .before .before .before .before .before .before .before .before .before .before .args .code) (c .before .before .before .before .before .before .before .before .before .before .before .before .args .row) (c .before .before .before .before .before .before .before .before .before .before .before .before .args .column) (c .before .before .before .before .before .before .before .before .before .before .before .before .args .p) _ _ _ (c .before .before .before .before .before .before .before .decode .ensures) _ (c .before .before .before .before .before .x .given .1) (c .before .if2 .taken) (c .before .before .if1 .left) _ (c .count-moves .ensures))
 
-is-button-requires : tie.Need-is-button-requires
-is-button-requires c κs = search needs
-
-press-requires : tie.Need-press-requires
-press-requires c κs = (c .before .before .before .before .before .before .before .before .before .before .before .before .before .before .before .before .pre .0, (c .before .before .before .before .before .before .before .before .before .before .before .before .before .before .before .before .pre .1, (pointer-inside (c .before .before .before .before .before .before .before .before .before .before .before .before .before .before .before .before .args .p .settings) (c .before .before .before .before .before .before .before .before .before .before .before .before .before .before .before .before .args .row) (c .before .before .before .before .before .before .before .before .before .before .before .before .before .before .before .before .args .column) _ (sym (c .before .before .before .before .before .before .before .before .before .before .before .decode .ensures) ∙ c .before .before .before .before .before .before .before .before .before .x .given .1), sym (c .before .before .before .before .is-button .ensures) ∙ c .before .before .before .if3 .taken)))
+refusal-at-requires : tie.Need-refusal-at-requires
+refusal-at-requires c κs = search needs
 
 same-length : tie.Need-same-length
 same-length c = search needs
+
+returns-4 : tie.Need-returns-4
+returns-4 c = plays-here (step-refused _ (c .before .before .before .before .before .before .before .before .before .before .before .before .before .before .args .code) (c .before .before .before .before .before .before .before .before .before .before .before .before .before .before .args .row) (c .before .before .before .before .before .before .before .before .before .before .before .before .before .before .args .column) (c .before .before .before .before .before .before .before .before .before .before .before .before .before .before .args .p) _ _ _ (c .before .before .before .before .before .before .before .before .before .decode .ensures) _ _ (c .before .before .before .before .before .before .before .x .given .1) (c .before .refusal-at .ensures _) (c .if3 .taken))
+
+play-at-requires : tie.Need-play-at-requires
+play-at-requires c κs = (c .before .before .before .before .before .before .before .before .before .before .before .before .before .before .before .before .before .pre .0, (c .before .before .before .before .before .before .before .before .before .before .before .before .before .before .before .before .before .pre .1, pointer-inside (c .before .before .before .before .before .before .before .before .before .before .before .before .before .before .before .before .before .args .p .settings) (c .before .before .before .before .before .before .before .before .before .before .before .before .before .before .before .before .before .args .row) (c .before .before .before .before .before .before .before .before .before .before .before .before .before .before .before .before .before .args .column) _ (sym (c .before .before .before .before .before .before .before .before .before .before .before .before .decode .ensures) ∙ c .before .before .before .before .before .before .before .before .before .before .x .given .1)))
 
 same-length-2 : tie.Need-same-length-2
 same-length-2 c = search needs
@@ -44,32 +46,11 @@ same-length-2 c = search needs
 same-length-3 : tie.Need-same-length-3
 same-length-3 c = search needs
 
-returns-4 : tie.Need-returns-4
-returns-4 c = plays-by (c .before .before .before .before .before .before .press .ensures) (step-played _ (c .before .before .before .before .before .before .before .before .before .before .before .before .before .before .before .before .before .before .before .before .before .before .before .args .code) (c .before .before .before .before .before .before .before .before .before .before .before .before .before .before .before .before .before .before .before .before .before .before .before .args .row) (c .before .before .before .before .before .before .before .before .before .before .before .before .before .before .before .before .before .before .before .before .before .before .before .args .column) (c .before .before .before .before .before .before .before .before .before .before .before .before .before .before .before .before .before .before .before .before .before .before .before .args .p) _ _ _ (c .before .before .before .before .before .before .before .before .before .before .before .before .before .before .before .before .before .before .decode .ensures) _ _ (c .before .before .before .before .before .before .before .before .before .before .before .before .before .before .before .before .x .given .1) (button-accepted (c .before .before .before .before .before .before .before .before .before .before .before .before .before .before .before .before .before .before .before .before .before .before .before .args .code) _ (c .before .before .before .before .before .before .before .before .before .before .before .before .before .before .before .before .before .before .before .before .before .before .before .args .p) _ _ (sym (c .before .before .before .before .before .before .before .before .before .before .before .is-button .ensures) ∙ c .before .before .before .before .before .before .before .before .before .before .if3 .taken) (c .before .before .before .before .before .before .before .before .before .before .before .before .before .if1 .left)) refl)
-
-refusal-at-requires : tie.Need-refusal-at-requires
-refusal-at-requires c κs = search needs
-
 same-length-4 : tie.Need-same-length-4
 same-length-4 c = search needs
 
 returns-5 : tie.Need-returns-5
-returns-5 c = plays-here (step-refused _ (c .before .before .before .before .before .before .before .before .before .before .before .before .before .before .before .before .args .code) (c .before .before .before .before .before .before .before .before .before .before .before .before .before .before .before .before .args .row) (c .before .before .before .before .before .before .before .before .before .before .before .before .before .before .before .before .args .column) (c .before .before .before .before .before .before .before .before .before .before .before .before .before .before .before .before .args .p) _ _ _ (c .before .before .before .before .before .before .before .before .before .before .before .decode .ensures) _ _ (c .before .before .before .before .before .before .before .before .before .x .given .1) (c .before .refusal-at .ensures _) (c .if4 .taken))
-
-play-at-requires : tie.Need-play-at-requires
-play-at-requires c κs = (c .before .before .before .before .before .before .before .before .before .before .before .before .before .before .before .before .before .before .before .pre .0, (c .before .before .before .before .before .before .before .before .before .before .before .before .before .before .before .before .before .before .before .pre .1, pointer-inside (c .before .before .before .before .before .before .before .before .before .before .before .before .before .before .before .before .before .before .before .args .p .settings) (c .before .before .before .before .before .before .before .before .before .before .before .before .before .before .before .before .before .before .before .args .row) (c .before .before .before .before .before .before .before .before .before .before .before .before .before .before .before .before .before .before .before .args .column) _ (sym (c .before .before .before .before .before .before .before .before .before .before .before .before .before .before .decode .ensures) ∙ c .before .before .before .before .before .before .before .before .before .before .before .before .x .given .1)))
-
-same-length-5 : tie.Need-same-length-5
-same-length-5 c = search needs
-
-same-length-6 : tie.Need-same-length-6
-same-length-6 c = search needs
-
-same-length-7 : tie.Need-same-length-7
-same-length-7 c = search needs
-
-returns-6 : tie.Need-returns-6
-returns-6 c = plays-by (c .before .before .before .before .before .before .play-at .ensures) (step-played _ (c .before .before .before .before .before .before .before .before .before .before .before .before .before .before .before .before .before .before .before .before .before .before .before .before .before .before .args .code) (c .before .before .before .before .before .before .before .before .before .before .before .before .before .before .before .before .before .before .before .before .before .before .before .before .before .before .args .row) (c .before .before .before .before .before .before .before .before .before .before .before .before .before .before .before .before .before .before .before .before .before .before .before .before .before .before .args .column) (c .before .before .before .before .before .before .before .before .before .before .before .before .before .before .before .before .before .before .before .before .before .before .before .before .before .before .args .p) _ _ _ (c .before .before .before .before .before .before .before .before .before .before .before .before .before .before .before .before .before .before .before .before .before .decode .ensures) _ _ (c .before .before .before .before .before .before .before .before .before .before .before .before .before .before .before .before .before .before .before .x .given .1) (c .before .before .before .before .before .before .before .before .before .before .before .refusal-at .ensures _) (c .before .before .before .before .before .before .before .before .before .before .if4 .left))
+returns-5 c = plays-by (c .before .before .before .before .before .before .play-at .ensures) (step-played _ (c .before .before .before .before .before .before .before .before .before .before .before .before .before .before .before .before .before .before .before .before .before .before .before .before .args .code) (c .before .before .before .before .before .before .before .before .before .before .before .before .before .before .before .before .before .before .before .before .before .before .before .before .args .row) (c .before .before .before .before .before .before .before .before .before .before .before .before .before .before .before .before .before .before .before .before .before .before .before .before .args .column) (c .before .before .before .before .before .before .before .before .before .before .before .before .before .before .before .before .before .before .before .before .before .before .before .before .args .p) _ _ _ (c .before .before .before .before .before .before .before .before .before .before .before .before .before .before .before .before .before .before .before .decode .ensures) _ _ (c .before .before .before .before .before .before .before .before .before .before .before .before .before .before .before .before .before .x .given .1) (c .before .before .before .before .before .before .before .before .before .before .before .refusal-at .ensures _) (c .before .before .before .before .before .before .before .before .before .before .if3 .left))
 
 pub step-on-spec : {M : Type 1} → statement M
 step-on-spec =
@@ -82,17 +63,11 @@ step-on-spec =
     returns-2
     count-moves-requires
     returns-3
-    is-button-requires
-    press-requires
+    refusal-at-requires
     same-length
+    returns-4
+    play-at-requires
     same-length-2
     same-length-3
-    returns-4
-    refusal-at-requires
     same-length-4
-    returns-5
-    play-at-requires
-    same-length-5
-    same-length-6
-    same-length-7
-    returns-6)
+    returns-5)

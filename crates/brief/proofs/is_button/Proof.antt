@@ -1,8 +1,8 @@
--- `game::is_button` meets its contract.
+-- `brief::is_button` meets its contract.
 use mathlib.Core.Path.{refl}
 use borrow.Author.Needs.{needs}
-use Rattle.game.proofs.is_button.Statement.{statement}
-use Rattle.game.proofs.is_button.Tie as tie
+use Rattle.brief.proofs.is_button.Statement.{statement}
+use Rattle.brief.proofs.is_button.Tie as tie
 
 enum-told : tie.Need-enum-told
 enum-told c = search needs

@@ -1,0 +1,211 @@
+// The button events that most of a game consists of, while Playing and on a cell, where they end at once: a press or a release that moves
+// the mouse state alone, a flag that no pass follows, a number opened. Each changes a few parts of the position and at most one cell.
+// The contracts cite rules' Step; specs/Briefly says what is left of an event that is not brief: everything.
+ghost use mathlib.Core.Path.{_≡_};
+ghost use mathlib.Core.Bool.{false, _&&_};
+ghost use mathlib.Core.List.{List};
+ghost use Prim.Native.Nat.{ℕ, _+_, _*_, _/_, _<_, _≤_};
+ghost use lib.Dec.{ltb};
+ghost use lib.ListN.{length, set};
+ghost use lib.IntN.{ℤ};
+ghost use Rattle.rules.specs.States.{isPlaying};
+ghost use Rattle.rules.specs.Grid.{cellOf};
+ghost use Rattle.rules.specs.Board.{faceAt};
+ghost use Rattle.rules.specs.Clicks.{desk, done, ended, addLeft, leftCounts, addRight, flagged};
+ghost use Rattle.rules.specs.Mouse.{moved};
+ghost use Rattle.rules.specs.Step.{move, playLr, playRc, playRr};
+ghost use Rattle.rules.specs.declared.Pointer.the-variants.{Cell};
+ghost use Rattle.cells.specs.Ground.{Mined, Valued};
+ghost use Rattle.clicks.specs.Room.{LeftRoom};
+ghost use Rattle.keep.specs.Kept.{LawfulAt};
+ghost use Rattle.brief.specs.Briefly.{OnBoard, Plainly, Briefly};
+use rules::GameState;
+use rules::Played;
+use rules::Position;
+
+// A brief event, played; or any other, not played yet.
+pub enum Brief {
+    Done(Played),
+    Other,
+}
+
+// A button event while Playing is what its code says, and nothing refuses it.
+pub fn is_button(g: GameState, code: u8) -> bool
+    ensures { λ r. ⌜ r ≡ (isPlaying g && ltb code 4) ⌝ }
+{
+    match g {
+        GameState::Ready => false,
+        GameState::Playing => code < 4,
+        GameState::Win => false,
+        GameState::Loss => false,
+        GameState::PreFlaging => false,
+    }
+}
+
+// The mouse state moves on, and nothing else happens.
+fn turned(p: Position, e: usize) -> Played
+    requires { ⌜ e < 8 ⌝ }
+    ensures { λ r. ⌜ r ≡ record { answer = 0; position = moved e p } ⌝ }
+{
+    let position = mouse::moved(e, p);
+    Played {
+        answer: 0,
+        position,
+    }
+}
+
+// rr: the right button goes up, and with the left one up too, or after a chord, nothing is chorded.
+fn release_right(p: Position) -> Brief
+    ensures { λ r. ⌜ ((B : List ℤ) (row column : ℕ) (shown bits : List ℕ) → Plainly (playRr B (Cell row column)) p shown bits r shown bits) ⌝ }
+{
+    let held = p.mouse;
+    let m = rules::mouse_number(held);
+    if mouse::both_down(m) {
+        return Brief::Other;
+    }
+    let o = turned(p, 3);
+    Brief::Done(o)
+}
+
+// A flag by hand from UpUp, on a closed cell.
+fn flag_at(p: Position, mines: &[i8], shown: &mut [u8], bits: &mut [u8], cell: usize) -> Played
+    requires { ⌜ (cell < length (now mines)) × (cell < length (now shown)) × (cell / 8 < length (now bits)) ⌝ }
+    requires { ⌜ Valued (now mines) ⌝ }
+    requires { ⌜ (p .counts .right ≤ 70000) × (p .counts .flag ≤ 70000) × (p .secrets .rce ≤ 70000) ⌝ }
+    ensures { λ r. ⌜ done (r .answer) (desk (r .position) (now (shown .exit)) (now (bits .exit))) ≡ done 1 (flagged (now (mines .entry)) cell (addRight (move 2 (desk p (now (shown .entry)) (now (bits .entry)))))) ⌝ }
+{
+    let n = p.counts.right + 1;
+    let down = mouse::moved(2, p);
+    let q = down.with_right(n);
+    let position = clicks::flag(q, mines, shown, bits, cell);
+    Played {
+        answer: 1,
+        position,
+    }
+}
+
+// rc: from UpUp on a closed cell a flag, in a mode below 12, where no pass follows it.
+fn press_right(
+    p: Position,
+    row: u8,
+    column: u8,
+    mines: &[i8],
+    shown: &mut [u8],
+    bits: &mut [u8],
+) -> Brief
+    requires { ⌜ LawfulAt (now mines) (desk p (now shown) (now bits)) ⌝ }
+    requires { ⌜ OnBoard (p .settings) row column ⌝ }
+    ensures { λ r. ⌜ Plainly (playRc (now (mines .entry)) (Cell row column)) p (now (shown .entry)) (now (bits .entry)) r (now (shown .exit)) (now (bits .exit)) ⌝ }
+{
+    if 12 <= p.settings.mode {
+        return Brief::Other;
+    }
+    let held = p.mouse;
+    let m = rules::mouse_number(held);
+    if m != 0 {
+        return Brief::Other;
+    }
+    let cell = mouse::cell(p.settings.columns, row, column);
+    if shown[cell] != 10 {
+        return Brief::Other;
+    }
+    let o = flag_at(p, mines, shown, bits, cell);
+    Brief::Done(o)
+}
+
+// A left click on a closed number: it is shown, and opens nothing more.
+fn number_at(p: Position, row: u8, column: u8, face: u8, mines: &[i8], shown: &mut [u8]) -> Played
+    requires { ⌜ Mined (now mines) (p .settings .rows) (p .settings .columns) ⌝ }
+    requires { ⌜ length (now shown) ≡ p .settings .rows * p .settings .columns ⌝ }
+    requires { ⌜ OnBoard (p .settings) row column ⌝ }
+    requires { ⌜ LeftRoom p ⌝ }
+    requires { ⌜ (face ≡ faceAt (now mines) (cellOf (p .settings .columns) row column)) × (face ≡ 0 → ⊥) × (face ≡ 15 → ⊥) ⌝ }
+    ensures { λ r. ⌜ ((bits : List ℕ) → done (r .answer) (desk (r .position) (now (shown .exit)) bits) ≡ ended (now (mines .entry)) 2 (leftCounts (now (mines .entry)) (addLeft (move 1 (desk p (now (shown .entry)) bits))) (cellOf (p .settings .columns) row column)) (record { shown = set (now (shown .entry)) (cellOf (p .settings .columns) row column) face; hit = false })) ⌝ }
+{
+    let rows = p.settings.rows as usize;
+    let columns = p.settings.columns as usize;
+    let zeros = cells::faces_around(mines, rows, columns, row as usize, column as usize, 0);
+    let one = clicks::one_if(zeros == 0);
+    let left = p.counts.left + 1;
+    let lce = p.counts.lce + 1;
+    let solved = p.secrets.solved_left + one;
+    let up = mouse::moved(1, p);
+    let y = up.with_left(left);
+    let z = y.with_lce(lce);
+    let q = z.with_solved_left(solved);
+    let cell = mouse::cell(p.settings.columns, row, column);
+    shown[cell] = face;
+    let won = clicks::is_win_near(mines, shown, cell);
+    if won {
+        let position = q.with_game(GameState::Win);
+        return Played {
+            answer: 2,
+            position,
+        };
+    }
+    Played {
+        answer: 2,
+        position: q,
+    }
+}
+
+// lr: from DownUp on a closed number the left click.
+fn release_left(p: Position, row: u8, column: u8, mines: &[i8], shown: &mut [u8]) -> Brief
+    requires { ⌜ Mined (now mines) (p .settings .rows) (p .settings .columns) ⌝ }
+    requires { ⌜ length (now shown) ≡ p .settings .rows * p .settings .columns ⌝ }
+    requires { ⌜ OnBoard (p .settings) row column ⌝ }
+    requires { ⌜ LeftRoom p ⌝ }
+    ensures { λ r. ⌜ ((bits : List ℕ) → Plainly (playLr (now (mines .entry)) (Cell row column)) p (now (shown .entry)) bits r (now (shown .exit)) bits) ⌝ }
+{
+    let held = p.mouse;
+    let m = rules::mouse_number(held);
+    if m != 3 {
+        return Brief::Other;
+    }
+    let cell = mouse::cell(p.settings.columns, row, column);
+    if shown[cell] != 10 {
+        return Brief::Other;
+    }
+    let face = cells::face_at(mines, cell);
+    if !clicks::is_number(face) {
+        return Brief::Other;
+    }
+    let o = number_at(p, row, column, face, mines, shown);
+    Brief::Done(o)
+}
+
+// The event, if it is brief; the caller counts it.
+pub fn play_brief(
+    p: Position,
+    code: u8,
+    row: u8,
+    column: u8,
+    mines: &[i8],
+    shown: &mut [u8],
+    bits: &mut [u8],
+) -> Brief
+    requires { ⌜ LawfulAt (now mines) (desk p (now shown) (now bits)) ⌝ }
+    ensures { λ r. ⌜ Briefly (now (mines .entry)) code row column p (now (shown .entry)) (now (bits .entry)) r (now (shown .exit)) (now (bits .exit)) ⌝ }
+{
+    let game = p.game;
+    if !is_button(game, code) {
+        return Brief::Other;
+    }
+    if 65535 <= p.events {
+        return Brief::Other;
+    }
+    if !mouse::within(row, p.settings.rows, column, p.settings.columns) {
+        return Brief::Other;
+    }
+    if code == 0 {
+        let o = turned(p, 0);
+        return Brief::Done(o);
+    }
+    if code == 1 {
+        return release_left(p, row, column, mines, shown);
+    }
+    if code == 2 {
+        return press_right(p, row, column, mines, shown, bits);
+    }
+    release_right(p)
+}
