@@ -11,10 +11,10 @@ use Rattle.rules.specs.declared.GameState.the-variants.{Ready, Playing, Win, Lo
 use Rattle.rules.specs.declared.MouseState.{MouseState}
 use Rattle.rules.specs.declared.MouseState.the-variants.{UpUp, UpDown, UpDownNotFlag, DownUp, Chording, ChordingNotFlag, DownUpAfterChording}
 use Rattle.rules.specs.Words.{bit}
-use Rattle.rules.specs.States.{gameNumber, mouseNumber, mouseAt}
+use Rattle.rules.specs.States.{gameNumber, gameAt, mouseNumber, mouseAt}
 use Rattle.cells.proofs.Words.{and-left, and-right}
 use Rattle.flats.specs.declared.FlatPosition.{FlatPosition}
-use Rattle.flats.specs.Flat.{gameAt, isOn, means, positionIn, flatOf}
+use Rattle.flats.specs.Flat.{isOn, means, positionIn, flatOf}
 
 -- ---- a byte at a time ------------------------------------------------------------------------------------------------------------------
 

@@ -7,18 +7,12 @@ use Rattle.rules.specs.declared.Position.{Position}
 use Rattle.rules.specs.declared.Answer.{Answer}
 use Rattle.rules.specs.declared.Value.{Value}
 use Rattle.rules.specs.declared.Book.{Book}
-use Rattle.rules.specs.declared.GameState.{GameState}
-use Rattle.rules.specs.declared.GameState.the-variants.{Ready, Playing, Win, Loss, PreFlaging}
-use Rattle.rules.specs.Words.{pick, bit}
-use Rattle.rules.specs.States.{gameNumber, mouseNumber, mouseAt}
+use Rattle.rules.specs.Words.{bit}
+use Rattle.rules.specs.States.{gameNumber, gameAt, mouseNumber, mouseAt}
 use Rattle.flats.specs.declared.FlatPosition.{FlatPosition}
 use Rattle.flats.specs.declared.FlatAnswer.{FlatAnswer}
 use Rattle.flats.specs.declared.FlatValue.{FlatValue}
 use Rattle.flats.specs.declared.FlatBook.{FlatBook}
-
--- game states by number: Ready 0, Playing 1, Win 2, Loss 3, PreFlaging 4
-unfoldable pub gameAt : ℕ → GameState
-gameAt n = pick (eqb n 0) Ready (pick (eqb n 1) Playing (pick (eqb n 2) Win (pick (eqb n 3) Loss PreFlaging)))
 
 -- a byte that says yes or no: 0 is no
 abbrev pub isOn : ℕ → Bool

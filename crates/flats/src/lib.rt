@@ -2,12 +2,11 @@
 // Every byte pattern is taken; a state byte that means nothing makes the position unlawful (specs/Parts.antt).
 ghost use mathlib.Core.Path.{_≡_};
 ghost use Rattle.rules.specs.Words.{bit};
-ghost use Rattle.flats.specs.Flat.{gameAt, means, settingsOf, positionIn, flatOf, gives, flatAnswer, flatBook};
+ghost use Rattle.flats.specs.Flat.{means, settingsOf, positionIn, flatOf, gives, flatAnswer, flatBook};
 ghost use Rattle.flats.specs.Parts.{readOf, answeredOf};
 use rules::Answer;
 use rules::Book;
 use rules::Counts;
-use rules::GameState;
 use rules::Position;
 use rules::Secrets;
 use rules::Settings;
@@ -69,18 +68,6 @@ pub struct FlatBook {
 
 // ---- what the bytes mean ---------------------------------------------------------------------------------------------------------------
 
-fn game_at(n: u8) -> GameState
-    ensures { λ r. ⌜ r ≡ gameAt n ⌝ }
-{
-    match n {
-        0 => GameState::Ready,
-        1 => GameState::Playing,
-        2 => GameState::Win,
-        3 => GameState::Loss,
-        _ => GameState::PreFlaging,
-    }
-}
-
 fn byte(b: bool) -> u8
     ensures { λ r. ⌜ r ≡ bit b ⌝ }
 {
@@ -119,7 +106,7 @@ pub fn position_in(f: FlatPosition) -> Position
     ensures { λ r. ⌜ r ≡ positionIn f ⌝ }
 {
     let settings = settings_of(f.rows, f.columns, f.mode, f.question);
-    let game = game_at(f.game);
+    let game = rules::game_at(f.game);
     let mouse = rules::mouse_at(f.mouse);
     let counts = Counts {
         left: f.left,

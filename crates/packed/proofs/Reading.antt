@@ -11,8 +11,8 @@ use Rattle.rules.specs.declared.Counts.{Counts}
 use Rattle.rules.specs.declared.Secrets.{Secrets}
 use Rattle.rules.specs.declared.Position.{Position}
 use Rattle.rules.specs.Words.{bit}
-use Rattle.rules.specs.States.{gameNumber, mouseNumber, mouseAt}
-use Rattle.packed.specs.Packed.{fourAt, yes, gameAt, settingsIn, countsIn, secretsIn, positionIn}
+use Rattle.rules.specs.States.{gameNumber, gameAt, mouseNumber, mouseAt}
+use Rattle.packed.specs.Packed.{fourAt, yes, settingsIn, countsIn, secretsIn, positionIn}
 use Rattle.packed.specs.Line.{numbersOf}
 
 abbrev countsOf : ℕ → ℕ → ℕ → ℕ → ℕ → ℕ → Counts

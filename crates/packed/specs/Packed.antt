@@ -10,10 +10,8 @@ use Rattle.rules.specs.declared.Settings.{Settings}
 use Rattle.rules.specs.declared.Position.{Position}
 use Rattle.rules.specs.declared.Counts.{Counts}
 use Rattle.rules.specs.declared.Secrets.{Secrets}
-use Rattle.rules.specs.declared.GameState.{GameState}
-use Rattle.rules.specs.declared.GameState.the-variants.{Ready, Playing, Win, Loss, PreFlaging}
 use Rattle.rules.specs.Words.{pick}
-use Rattle.rules.specs.States.{mouseAt}
+use Rattle.rules.specs.States.{gameAt, mouseAt}
 
 -- numbers of two and of four bytes, low byte first
 abbrev pub twoAt : List ℕ → ℕ → ℕ
@@ -25,10 +23,6 @@ fourAt s k = twoAt s k + 65536 * twoAt s (k + 2)
 -- 0 is no, any other byte yes
 abbrev pub yes : ℕ → Bool
 yes b = not (eqb b 0)
-
--- game states by number; all from 4 on are the last
-unfoldable pub gameAt : ℕ → GameState
-gameAt n = pick (eqb n 0) Ready (pick (eqb n 1) Playing (pick (eqb n 2) Win (pick (eqb n 3) Loss PreFlaging)))
 
 abbrev pub settingsIn : List ℕ → Settings
 settingsIn s = record { rows = getD s 0 0; columns = getD s 1 0; mode = getD s 2 0; question = yes (getD s 3 0) }

@@ -5,11 +5,10 @@ ghost use mathlib.Core.Path.{_≡_};
 ghost use Prim.Native.Nat.{_<_, _≤_};
 ghost use lib.ListN.{length};
 ghost use Rattle.text.specs.Put.{PutWithin};
-ghost use Rattle.packed.specs.Packed.{twoAt, fourAt, gameAt, settingsIn, countsIn, secretsIn, positionIn, signedOf, signedAll};
+ghost use Rattle.packed.specs.Packed.{twoAt, fourAt, settingsIn, countsIn, secretsIn, positionIn, signedOf, signedAll};
 ghost use Rattle.packed.specs.Line.{numbersOf, outcomeLine, outcomeRoom};
 use rules::Answer;
 use rules::Counts;
-use rules::GameState;
 use rules::Position;
 use rules::Secrets;
 use rules::Settings;
@@ -44,18 +43,6 @@ pub fn length_at(s: &[u8; 62], at: usize) -> usize
     ensures { λ r. ⌜ r < 65536 ⌝ }
 {
     two_at(s, at) as usize
-}
-
-fn game_at(n: u8) -> GameState
-    ensures { λ r. ⌜ r ≡ gameAt n ⌝ }
-{
-    match n {
-        0 => GameState::Ready,
-        1 => GameState::Playing,
-        2 => GameState::Win,
-        3 => GameState::Loss,
-        _ => GameState::PreFlaging,
-    }
 }
 
 fn settings_in(s: &[u8; 62]) -> Settings
@@ -96,7 +83,7 @@ pub fn position_in(s: &[u8; 62]) -> Position
     ensures { λ r. ⌜ r ≡ positionIn (now (s .entry)) ⌝ }
 {
     let settings = settings_in(s);
-    let game = game_at(s[4]);
+    let game = rules::game_at(s[4]);
     let mouse = rules::mouse_at(s[5]);
     let counts = counts_in(s);
     let secrets = secrets_in(s);

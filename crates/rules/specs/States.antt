@@ -20,6 +20,10 @@ gameNumber Win = 2
 gameNumber Loss = 3
 gameNumber PreFlaging = 4
 
+-- and back; all from 4 on are the last
+unfoldable pub gameAt : ℕ → GameState
+gameAt n = pick (eqb n 0) Ready (pick (eqb n 1) Playing (pick (eqb n 2) Win (pick (eqb n 3) Loss PreFlaging)))
+
 -- mouse states by number
 abbrev pub mouseNumber : MouseState → ℕ
 mouseNumber UpUp = 0
@@ -30,7 +34,7 @@ mouseNumber Chording = 4
 mouseNumber ChordingNotFlag = 5
 mouseNumber DownUpAfterChording = 6
 
--- and back
+-- and back; all from 6 on are the last
 unfoldable pub mouseAt : ℕ → MouseState
 mouseAt n =
     pick (eqb n 0) UpUp (pick (eqb n 1) UpDown (pick (eqb n 2) UpDownNotFlag (pick (eqb n 3) DownUp

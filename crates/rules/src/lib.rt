@@ -1,7 +1,7 @@
 // The game's nouns: the position by value, the event whose cases hold a pointer, the answers; and the position with one part changed.
 // The contracts cite specs/States.antt, which gives document 01's number for every state.
 ghost use mathlib.Core.Path.{_≡_};
-ghost use Rattle.rules.specs.States.{gameNumber, mouseNumber, mouseAt, withGame, withMouse, withMiddle, withPreflags, withEvents, withLeft, withRight, withDouble, withLce, withDce, withFlag, withRce, withSolvedLeft, withSolvedChord, zeroed, freshOf};
+ghost use Rattle.rules.specs.States.{gameNumber, gameAt, mouseNumber, mouseAt, withGame, withMouse, withMiddle, withPreflags, withEvents, withLeft, withRight, withDouble, withLce, withDce, withFlag, withRce, withSolvedLeft, withSolvedChord, zeroed, freshOf};
 
 pub enum GameState {
     Ready,
@@ -141,6 +141,18 @@ pub fn mouse_number(m: MouseState) -> u8
         MouseState::Chording => 4,
         MouseState::ChordingNotFlag => 5,
         MouseState::DownUpAfterChording => 6,
+    }
+}
+
+pub fn game_at(n: u8) -> GameState
+    ensures { λ r. ⌜ r ≡ gameAt n ⌝ }
+{
+    match n {
+        0 => GameState::Ready,
+        1 => GameState::Playing,
+        2 => GameState::Win,
+        3 => GameState::Loss,
+        _ => GameState::PreFlaging,
     }
 }
 

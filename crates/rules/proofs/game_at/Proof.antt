@@ -1,8 +1,8 @@
--- `flats::game_at` meets its contract.
+-- `rules::game_at` meets its contract.
 use borrow.Author.Tests.{ne-eqb}
-use Rattle.flats.specs.Flat.{gameAt}
-use Rattle.flats.proofs.game_at.Statement.{statement}
-use Rattle.flats.proofs.game_at.Tie as tie
+use Rattle.rules.specs.States.{gameAt}
+use Rattle.rules.proofs.game_at.Statement.{statement}
+use Rattle.rules.proofs.game_at.Tie as tie
 
 returns : tie.Need-returns
 unfolding gameAt
