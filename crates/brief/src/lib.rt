@@ -30,7 +30,7 @@ pub enum Brief {
 }
 
 // A button event while Playing is what its code says, and nothing refuses it.
-pub fn is_button(g: GameState, code: u8) -> bool
+fn is_button(g: GameState, code: u8) -> bool
     ensures { λ r. ⌜ r ≡ (isPlaying g && ltb code 4) ⌝ }
 {
     match g {
