@@ -1,6 +1,6 @@
 -- One outcome for every input: any two outcomes that a call's promise allows are equal, answer, position, value and every lent list.
 -- And a refusal returns its number, the position given and the value 0, and writes nothing lent.
-use mathlib.Core.Path.{_≡_, ap, sym, _∙_}
+use mathlib.Core.Path.{_≡_, ap}
 use mathlib.Core.List.{List}
 use Prim.Native.Nat.{ℕ}
 use borrow.Author.Tests.{ne-eqb}
@@ -13,13 +13,10 @@ use Rattle.rules.specs.States.{freshOf}
 use Rattle.rules.specs.Board.{numberingRefusal}
 use Rattle.rules.specs.Clicks.{Desk}
 use Rattle.rules.specs.Calls.{Outcome, outcome, SetUp, Totalled, Asked, Numbered, answers, setUp, refused, setupBy, setupRefusal, setupOf, resetOf, totalRefusal, totalOf, numberingOf, positionCheck, lentRefusal, flowRefusal, stepOf, flowOf, gameStateOf, bbbvSolvedOf, leftToSolveOf}
+use Rattle.cells.proofs.Words.{one}
 use Rattle.board.specs.Promises.{numbers, totals, asks, CheckBoardIs, NumberMinesIs, Total3bvIs, SetupIs, ResetIs, CheckPositionIs, StepGameStateIs, BbbvSolvedIs, LeftToSolveIs, StepIs, StepFlowIs}
 
 -- ---- one outcome -----------------------------------------------------------------------------------------------------------------------
-
--- two things that equal a third
-one : {A : Type 0} {x y o : A} → x ≡ o → y ≡ o → x ≡ y
-one h k = h ∙ sym k
 
 pub check-board-one : (rows columns : ℕ) (B : List ℤ) (r q : ℕ) → CheckBoardIs rows columns B r → CheckBoardIs rows columns B q → r ≡ q
 check-board-one rows columns B r q h k = one h k

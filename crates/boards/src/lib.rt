@@ -6,43 +6,18 @@ ghost use Prim.Native.Nat.{ℕ, _*_, _<_, _≤_};
 ghost use lib.ListN.{length, replicate};
 ghost use lib.IntN.{pos};
 ghost use Rattle.rules.specs.Words.{every};
-ghost use Rattle.rules.specs.Grid.{sizeOk, cellOf};
+ghost use Rattle.rules.specs.Grid.{cellOf};
 ghost use Rattle.rules.specs.Board.{valueOk, valuesOk, numberOk, numbersOk, someSafe, boardRefusal, boardCheck, minesIn, mineCell, mineOk, numberingRefusal};
 ghost use Rattle.rules.specs.Calls.{numberingOf};
 ghost use Rattle.cells.specs.Ground.{Valued, Mined};
 ghost use Rattle.boards.specs.Rows.{rowOk};
 ghost use Rattle.boards.specs.Numbering.{placed, numberOne, numberFirst};
 
-fn wide(x: u8) -> usize
-    ensures { λ r. ⌜ (r ≡ x) × (r < 256) ⌝ }
-{
-    x as usize
-}
-
 // How many cells a board has.
 pub fn cell_count(rows: u8, columns: u8) -> usize
     ensures { λ r. ⌜ (r ≡ rows * columns) × (r ≤ 65025) ⌝ }
 {
-    wide(rows) * wide(columns)
-}
-
-// 20: rows and columns 1 to 64, at most 2,048 cells.
-pub fn size_ok(rows: u8, columns: u8) -> bool
-    ensures { λ r. ⌜ r ≡ sizeOk rows columns ⌝ }
-{
-    if rows < 1 {
-        return false;
-    }
-    if 64 < rows {
-        return false;
-    }
-    if columns < 1 {
-        return false;
-    }
-    if 64 < columns {
-        return false;
-    }
-    cell_count(rows, columns) <= 2048
+    cells::wide(rows) * cells::wide(columns)
 }
 
 fn value_ok(v: i8) -> bool
@@ -135,7 +110,7 @@ pub fn board_refusal(rows: u8, columns: u8, fit: bool, mines: &[i8]) -> u16
     requires { ⌜ (fit ≡ true → length (now mines) ≡ rows * columns) ⌝ }
     ensures { λ r. ⌜ r ≡ boardRefusal rows columns fit (now (mines .entry)) ⌝ }
 {
-    if !size_ok(rows, columns) {
+    if !cells::size_ok(rows, columns) {
         return 20;
     }
     if !fit {
@@ -144,7 +119,7 @@ pub fn board_refusal(rows: u8, columns: u8, fit: bool, mines: &[i8]) -> u16
     if !values_ok(mines) {
         return 22;
     }
-    if !numbers_ok(mines, wide(rows), wide(columns)) {
+    if !numbers_ok(mines, cells::wide(rows), cells::wide(columns)) {
         return 23;
     }
     if !some_safe(mines) {
@@ -168,7 +143,7 @@ fn mine_cell(columns: u8, list: &[u8], n: usize) -> usize
 {
     let row = list[2 * n];
     let column = list[2 * n + 1];
-    cell_count(row, columns) + wide(column)
+    cell_count(row, columns) + cells::wide(column)
 }
 
 // The n-th mine is on the board and after the one before it.
@@ -206,7 +181,7 @@ fn mines_ok(rows: u8, columns: u8, list: &[u8]) -> bool
 fn numbering_refusal(rows: u8, columns: u8, list: &[u8], mines: &[i8]) -> u16
     ensures { λ r. ⌜ r ≡ numberingRefusal rows columns (now (list .entry)) (now (mines .entry)) ⌝ }
 {
-    if !size_ok(rows, columns) {
+    if !cells::size_ok(rows, columns) {
         return 20;
     }
     if mines.len() != cell_count(rows, columns) {
@@ -281,6 +256,6 @@ pub fn number_mines(rows: u8, columns: u8, list: &[u8], mines: &mut [i8]) -> u16
     }
     clear(&mut *mines);
     place_mines(columns, list, &mut *mines);
-    number_cells(&mut *mines, wide(rows), wide(columns));
+    number_cells(&mut *mines, cells::wide(rows), cells::wide(columns));
     0
 }

@@ -3,8 +3,7 @@
 ghost use mathlib.Core.Path.{_≡_};
 ghost use Prim.Native.Nat.{_<_, _≤_, _+_, _*_};
 ghost use lib.ListN.{length};
-ghost use Rattle.rules.specs.Grid.{sizeOk, cellOf};
-ghost use Rattle.rules.specs.Calls.{modeOk};
+ghost use Rattle.rules.specs.Grid.{cellOf};
 ghost use Rattle.rules.specs.Book.{wordAt, refusedBook, bookEnds, eventsFrom, minesSection, bookOf};
 ghost use Rattle.book.specs.Parts.{mineFits, partOf};
 use rules::Book;
@@ -16,18 +15,12 @@ pub const MOST: usize = 8192;
 // The bytes of the longest book: settings, at most 2,047 mines, events.
 pub const LONGEST: usize = 5 + (2 + 2 * 2047) + (2 + 3 * MOST);
 
-fn wide(x: u8) -> usize
-    ensures { λ r. ⌜ (r ≡ x) × (r < 256) ⌝ }
-{
-    x as usize
-}
-
 // A two-byte count, low byte first.
 fn word_at(s: &[u8], at: usize) -> usize
     requires { ⌜ at + 2 ≤ length (now s) ⌝ }
     ensures { λ r. ⌜ (r ≡ wordAt (now (s .entry)) at) × (r < 65536) ⌝ }
 {
-    wide(s[at]) + 256 * wide(s[at + 1])
+    cells::wide(s[at]) + 256 * cells::wide(s[at + 1])
 }
 
 fn refused(number: u16, place: usize) -> Book
@@ -50,41 +43,11 @@ fn refused(number: u16, place: usize) -> Book
     }
 }
 
-fn size_ok(rows: u8, columns: u8) -> bool
-    ensures { λ r. ⌜ r ≡ sizeOk rows columns ⌝ }
-{
-    if rows < 1 {
-        return false;
-    }
-    if 64 < rows {
-        return false;
-    }
-    if columns < 1 {
-        return false;
-    }
-    if 64 < columns {
-        return false;
-    }
-    wide(rows) * wide(columns) <= 2048
-}
-
-fn mode_ok(mode: u8) -> bool
-    ensures { λ r. ⌜ r ≡ modeOk mode ⌝ }
-{
-    if mode <= 5 {
-        return true;
-    }
-    if mode < 11 {
-        return false;
-    }
-    mode <= 16
-}
-
 // The number of a cell.
 fn cell(row: u8, column: u8, columns: u8) -> usize
     ensures { λ r. ⌜ (r ≡ cellOf columns row column) × (r < 65536) ⌝ }
 {
-    wide(row) * wide(columns) + wide(column)
+    cells::wide(row) * cells::wide(columns) + cells::wide(column)
 }
 
 // Is a mine on the board, and its cell not before `next`?
@@ -150,7 +113,7 @@ fn read_mines(s: &[u8], at: usize, settings: Settings) -> Book
         return refused(40, s.len());
     }
     let mines = word_at(s, at);
-    if wide(rows) * wide(columns) <= mines {
+    if cells::wide(rows) * cells::wide(columns) <= mines {
         return refused(24, at);
     }
     let from = at + 2;
@@ -191,8 +154,8 @@ pub fn read_book(s: &[u8]) -> Book
     let mode = s[3];
     let question = s[4];
     let question_right = question <= 1;
-    let size_right = size_ok(rows, columns);
-    let mode_right = mode_ok(mode);
+    let size_right = cells::size_ok(rows, columns);
+    let mode_right = cells::mode_ok(mode);
     if !question_right {
         return refused(41, 4);
     }

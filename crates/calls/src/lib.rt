@@ -14,12 +14,6 @@ use rules::Position;
 use rules::Settings;
 use rules::Value;
 
-fn wide(x: u8) -> usize
-    ensures { λ r. ⌜ r ≡ x ⌝ }
-{
-    x as usize
-}
-
 pub fn answer(n: u16, p: Position, v: u32) -> Answer
     ensures { λ r. ⌜ r ≡ answers n p v ⌝ }
 {
@@ -54,7 +48,7 @@ fn total_on(rows: u8, columns: u8, mines: &[i8], work: &mut [u16]) -> u32
 {
     let cells = boards::cell_count(rows, columns);
     cells::clear(&mut *work, 8 * cells + 8);
-    let total = judging::total_3bv(mines, &mut *work, wide(rows), wide(columns));
+    let total = judging::total_3bv(mines, &mut *work, cells::wide(rows), cells::wide(columns));
     total as u32
 }
 

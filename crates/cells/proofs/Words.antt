@@ -33,6 +33,10 @@ bit-le false = omega arith
 pub is-bit : (b : Bool) {n : ℕ} → n ≡ bit b → n ≤ 1
 is-bit b e = rw e (bit-le b)
 
+-- two things that equal a third
+pub one : {A : Type 0} {x y o : A} → x ≡ o → y ≡ o → x ≡ y
+one h k = h ∙ sym k
+
 -- a choice has what both its sides have
 pub pick-both : {A : Type 0} (P : A → Type 0) (b : Bool) (x y : A) → (b ≡ true → P x) → (b ≡ false → P y) → P (pick b x y)
 pick-both P true x y f g = f refl

@@ -1,4 +1,4 @@
-// Leaves over the boards: the neighbours of a cell in row order, what a cell shows once open, counts around a cell, and lent lists filled.
+// Leaves over the boards: the neighbours of a cell in row order, what a cell shows once open, counts around a cell, lent lists filled, and the tests of a size and a mode.
 // A cell is given by its row and column, which its caller takes apart once. The contracts cite rules' Grid and Board, and specs/Ground.
 ghost use mathlib.Core.Path.{_≡_};
 ghost use mathlib.Core.List.{_++_};
@@ -6,8 +6,9 @@ ghost use Prim.Native.Nat.{ℕ, _+_, _*_, _/_, _%_, _<_, _≤_};
 ghost use lib.Dec.{eqb};
 ghost use lib.ListN.{length, getD, drop, replicate};
 ghost use Rattle.rules.specs.Words.{bit};
-ghost use Rattle.rules.specs.Grid.{cellOf, ninth, cellBefore, around};
+ghost use Rattle.rules.specs.Grid.{sizeOk, cellOf, ninth, cellBefore, around};
 ghost use Rattle.rules.specs.Board.{faceAt};
+ghost use Rattle.rules.specs.Calls.{modeOk};
 ghost use Rattle.cells.specs.Ground.{Sized, Valued, Mined, isInner, ringAt, ring, faceIs, Saw, SeenAround};
 
 // Place 4 of nine is the cell itself.
@@ -260,4 +261,37 @@ pub fn clear(work: &mut [u16], n: usize)
     for i in 0..n {
         work[i] = 0;
     }
+}
+
+// ---- numbers ---------------------------------------------------------------------------------------------------------------------------
+
+pub fn wide(x: u8) -> usize
+    ensures { λ r. ⌜ (r ≡ x) × (r < 256) ⌝ }
+{
+    x as usize
+}
+
+// 1 for yes, 0 for no.
+pub fn one_if(b: bool) -> u32
+    ensures { λ r. ⌜ (r ≡ bit b) × (r ≤ 1) ⌝ }
+{
+    if b {
+        return 1;
+    }
+    0
+}
+
+// Rows and columns 1 to 64, and at most 2,048 cells.
+pub fn size_ok(rows: u8, columns: u8) -> bool
+    ensures { λ r. ⌜ r ≡ sizeOk rows columns ⌝ }
+{
+    let cells = wide(rows) * wide(columns);
+    (1 <= rows) & ((rows <= 64) & ((1 <= columns) & ((columns <= 64) & (cells <= 2048))))
+}
+
+// Modes 0 to 5 and 11 to 16.
+pub fn mode_ok(mode: u8) -> bool
+    ensures { λ r. ⌜ r ≡ modeOk mode ⌝ }
+{
+    (mode <= 5) | ((11 <= mode) & (mode <= 16))
 }

@@ -5,7 +5,7 @@ ghost use mathlib.Core.Bool.{true};
 ghost use mathlib.Core.List.{List, [], _∷_};
 ghost use Prim.Native.Nat.{ℕ, _+_, _*_, _/_, _<_, _≤_};
 ghost use lib.ListN.{length, getD};
-ghost use Rattle.rules.specs.Words.{every, pick, bit, stackOf};
+ghost use Rattle.rules.specs.Words.{every, pick, stackOf};
 ghost use Rattle.rules.specs.Grid.{cellOf};
 ghost use Rattle.rules.specs.Board.{faceAt};
 ghost use Rattle.rules.specs.Opening.{closedAt};
@@ -155,16 +155,6 @@ fn open_cells(
 
 // ---- left ------------------------------------------------------------------------------------------------------------------------------
 
-// 1 for yes, 0 for no.
-pub fn one_if(b: bool) -> u32
-    ensures { λ r. ⌜ (r ≡ bit b) × (r ≤ 1) ⌝ }
-{
-    if b {
-        return 1;
-    }
-    0
-}
-
 // A number with no 0 neighbour, or a 0 whose opening has no cell showing 11.
 fn solves_left(
     p: Position,
@@ -199,7 +189,7 @@ fn left_counts(p: Position, mines: &[i8], shown: &[u8], work: &mut [u16], cell: 
         return p;
     }
     let solves = solves_left(p, mines, shown, work, cell, f);
-    let one = one_if(solves);
+    let one = cells::one_if(solves);
     let k = p.counts.lce + 1;
     let q = p.with_lce(k);
     let n = p.secrets.solved_left + one;

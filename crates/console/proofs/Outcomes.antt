@@ -1,18 +1,15 @@
 -- One outcome for every input: any two outcomes that a call's promise allows are equal, answer, flat position, value and every lent list.
 -- For the board check and numbering that is board's own theorem: their promises are board's.
-use mathlib.Core.Path.{_≡_, ap, sym, _∙_}
+use mathlib.Core.Path.{_≡_, ap}
 use mathlib.Core.List.{List, [], _∷_}
 use Prim.Native.Nat.{ℕ}
 use lib.IntN.{ℤ}
+use Rattle.cells.proofs.Words.{one}
 use Rattle.flats.specs.declared.FlatPosition.{FlatPosition}
 use Rattle.flats.specs.declared.FlatAnswer.{FlatAnswer}
 use Rattle.flats.specs.declared.FlatValue.{FlatValue}
 use Rattle.flats.specs.declared.FlatBook.{FlatBook}
 use Rattle.console.specs.Promises.{Leaves, leaves, SetupIs, ResetIs, StepIs, StepFlowIs, CheckPositionIs, StepGameStateIs, BbbvSolvedIs, LeftToSolveIs, Total3bvIs, ReadBookIs}
-
--- two things that equal a third
-one : {A : Type 0} {x y o : A} → x ≡ o → y ≡ o → x ≡ y
-one h k = h ∙ sym k
 
 -- the law for all calls with lent lists: both answers are the same, and so are all the lists
 leaves-one : {A : Type 0} {o : Leaves A} {r q : A} {ls ms : List (List ℕ)} → leaves r ls ≡ o → leaves q ms ≡ o → (r ≡ q) × (ls ≡ ms)

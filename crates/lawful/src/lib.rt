@@ -5,7 +5,6 @@ ghost use mathlib.Core.List.{List};
 ghost use Prim.Native.Nat.{ℕ, _+_, _*_, _<_, _≤_};
 ghost use lib.ListN.{length};
 ghost use Rattle.rules.specs.declared.Position.{Position};
-ghost use Rattle.rules.specs.Words.{bit};
 ghost use Rattle.rules.specs.States.{isLoss, isNotFlag};
 ghost use Rattle.rules.specs.Clicks.{desk};
 ghost use Rattle.rules.specs.Lawful.{cellLawful, shownLawful, bitsLawful, countsLawful, gameLawful, statesLawful, lawful};
@@ -23,23 +22,14 @@ pub struct Census {
     pub hits: u32,
 }
 
-fn one(b: bool) -> u32
-    ensures { λ r. ⌜ (r ≡ bit b) × (r ≤ 1) ⌝ }
-{
-    if b {
-        return 1;
-    }
-    0
-}
-
 fn count_cell(past: Census, x: u8) -> Census
     requires { ⌜ (past .opens ≤ 65535) × (past .flags ≤ 65535) × (past .wrong ≤ 65535) × (past .hits ≤ 65535) ⌝ }
     ensures { λ r. ⌜ OneMore past x r ⌝ }
 {
-    let open = one(x <= 8);
-    let flag = one(x == 11);
-    let wrong = one(x == 14);
-    let hit = one(x == 15);
+    let open = cells::one_if(x <= 8);
+    let flag = cells::one_if(x == 11);
+    let wrong = cells::one_if(x == 14);
+    let hit = cells::one_if(x == 15);
     Census {
         opens: past.opens + open,
         flags: past.flags + flag,

@@ -15,18 +15,12 @@ use rules::Settings;
 
 // ---- a packed step's head --------------------------------------------------------------------------------------------------------------
 
-fn wide(x: u8) -> u32
-    ensures { λ r. ⌜ (r ≡ x) × (r < 256) ⌝ }
-{
-    x as u32
-}
-
 // A number of two bytes from a place on.
 fn two_at(s: &[u8; 62], at: usize) -> u32
     requires { ⌜ at < 61 ⌝ }
     ensures { λ r. ⌜ (r ≡ twoAt (now (s .entry)) at) × (r < 65536) ⌝ }
 {
-    wide(s[at]) + 256 * wide(s[at + 1])
+    text::wide(s[at]) + 256 * text::wide(s[at + 1])
 }
 
 // A number of four bytes from a place on.
@@ -134,13 +128,13 @@ fn numbers(p: Position) -> [u32; 18]
     let c = p.counts;
     let k = p.secrets;
     [
-        wide(s.rows),
-        wide(s.columns),
-        wide(s.mode),
-        text::one_if(s.question),
-        wide(rules::game_number(g)),
-        wide(rules::mouse_number(m)),
-        text::one_if(p.middle),
+        text::wide(s.rows),
+        text::wide(s.columns),
+        text::wide(s.mode),
+        cells::one_if(s.question),
+        text::wide(rules::game_number(g)),
+        text::wide(rules::mouse_number(m)),
+        cells::one_if(p.middle),
         p.preflags,
         p.events,
         c.left,

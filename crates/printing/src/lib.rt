@@ -17,12 +17,6 @@ use rules::Book;
 use rules::Played;
 use rules::Position;
 
-fn wide(x: u8) -> usize
-    ensures { λ r. ⌜ r ≡ x ⌝ }
-{
-    x as usize
-}
-
 // The board of a book is numbered, every cell closed, every bit and the work 0.
 pub fn begin(
     s: &[u8],
@@ -87,8 +81,8 @@ pub fn finish(
     requires { ⌜ RowsFit (p .settings .rows) (p .settings .columns) (now shown) (at + 131) (now out) ⌝ }
     ensures { λ r. ⌜ PutWithin (131 + 4 * (p .settings .rows * p .settings .columns)) (endLines (now (mines .entry)) (desk p (now (shown .entry)) [])) at (now (out .entry)) (now (out .exit)) r ⌝ }
 {
-    let rows = wide(p.settings.rows);
-    let columns = wide(p.settings.columns);
+    let rows = cells::wide(p.settings.rows);
+    let columns = cells::wide(p.settings.columns);
     let cells = judging::total_3bv(mines, &mut *work, rows, columns);
     let total = cells as u32;
     let left = left_of(total, p.secrets.solved_left, p.secrets.solved_chord);

@@ -5,7 +5,7 @@ ghost use mathlib.Core.Bool.{true};
 ghost use Prim.Native.Nat.{_*_};
 ghost use lib.ListN.{length};
 ghost use Rattle.rules.specs.Clicks.{desk};
-ghost use Rattle.rules.specs.Calls.{boardsFit, workFits, modeOk, settingsRefusal, positionRefusal, lentRefusal, setupRefusal, totalRefusal, flowRefusal};
+ghost use Rattle.rules.specs.Calls.{boardsFit, workFits, settingsRefusal, positionRefusal, lentRefusal, setupRefusal, totalRefusal, flowRefusal};
 use rules::Position;
 use rules::Settings;
 
@@ -27,12 +27,6 @@ fn work_fits(s: Settings, work: &[u16]) -> bool
 
 // ---- the chains ------------------------------------------------------------------------------------------------------------------------
 
-fn mode_ok(mode: u8) -> bool
-    ensures { λ r. ⌜ r ≡ modeOk mode ⌝ }
-{
-    (mode <= 5) | ((11 <= mode) & (mode <= 16))
-}
-
 // The first refusal of 20 to 25, or 0, where `fit` says that every buffer of the call has its length.
 fn settings_refusal(s: Settings, fit: bool, mines: &[i8]) -> u16
     requires { ⌜ (fit ≡ true → length (now mines) ≡ s .rows * s .columns) ⌝ }
@@ -42,7 +36,7 @@ fn settings_refusal(s: Settings, fit: bool, mines: &[i8]) -> u16
     if n != 0 {
         return n;
     }
-    if !mode_ok(s.mode) {
+    if !cells::mode_ok(s.mode) {
         return 25;
     }
     0

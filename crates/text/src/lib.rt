@@ -4,7 +4,6 @@ ghost use mathlib.Core.Path.{_≡_};
 ghost use mathlib.Core.List.{_∷_, []};
 ghost use Prim.Native.Nat.{_<_, _≤_, _+_, _*_};
 ghost use lib.ListN.{length};
-ghost use Rattle.rules.specs.Words.{bit};
 ghost use Rattle.rules.specs.Printout.{decimal, spaced, lineOf, wordLine, wordCounts, wordBv, gameLine, nineCounts, rowLines};
 ghost use Rattle.text.specs.Texts.{refusedText, endText};
 ghost use Rattle.text.specs.Put.{Room, Put, PutWithin, RowsFit};
@@ -14,8 +13,8 @@ use rules::Settings;
 // Room for every printout: the settings' line, 8,192 events, the counts and the 3BV, and 2,048 cells.
 pub const ROOM: usize = 21 + 20 * 8192 + 131 + 4 * 2048;
 
-fn wide(x: u8) -> u32
-    ensures { λ r. ⌜ r ≡ x ⌝ }
+pub fn wide(x: u8) -> u32
+    ensures { λ r. ⌜ (r ≡ x) × (r < 256) ⌝ }
 {
     x as u32
 }
@@ -120,12 +119,6 @@ fn put_row(out: &mut [u8], at: usize, cells: &[u8]) -> usize
     put_byte(out, last, b'\n')
 }
 
-pub fn one_if(b: bool) -> u32
-    ensures { λ r. ⌜ r ≡ bit b ⌝ }
-{
-    if b { 1 } else { 0 }
-}
-
 // The line of the settings.
 pub fn put_game_line(out: &mut [u8], at: usize, settings: Settings) -> usize
     requires { ⌜ at + 21 ≤ length (now out) ⌝ }
@@ -134,7 +127,7 @@ pub fn put_game_line(out: &mut [u8], at: usize, settings: Settings) -> usize
     let rows = settings.rows as u32;
     let columns = settings.columns as u32;
     let mode = settings.mode as u32;
-    let question = one_if(settings.question);
+    let question = cells::one_if(settings.question);
     let ns = [rows, columns, mode, question];
     put_word_line(out, at, b"game", &ns)
 }

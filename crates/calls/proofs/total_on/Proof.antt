@@ -24,16 +24,16 @@ wide-requires-2 : tie.Need-wide-requires-2
 wide-requires-2 c κs = search needs
 
 total-3bv-requires : tie.Need-total-3bv-requires
-total-3bv-requires c κs = (mined-wide _ (c .before .wide .ensures) (c .wide2 .ensures) (c .before .before .before .before .before .before .before .before .before .pre .0), (room-wide _ (c .before .wide .ensures) (c .wide2 .ensures) (omega (arith, c .before .before .before .before .before .before .before .before .before .pre .1, c .before .before .before .before .before .clear .kept .0)), zeros-wide (c .before .before .before .before .before .before .before .before .before .args .mines .now) (c .before .wide .ensures) (c .wide2 .ensures) _ (c .before .before .before .before .before .before .before .cell-count .ensures .0) _ _ (c .before .before .before .before .before .clear .ensures)))
+total-3bv-requires c κs = (mined-wide _ (c .before .wide .ensures .0) (c .wide2 .ensures .0) (c .before .before .before .before .before .before .before .before .before .pre .0), (room-wide _ (c .before .wide .ensures .0) (c .wide2 .ensures .0) (omega (arith, c .before .before .before .before .before .before .before .before .before .pre .1, c .before .before .before .before .before .clear .kept .0)), zeros-wide (c .before .before .before .before .before .before .before .before .before .args .mines .now) (c .before .wide .ensures .0) (c .wide2 .ensures .0) _ (c .before .before .before .before .before .before .before .cell-count .ensures .0) _ _ (c .before .before .before .before .before .clear .ensures)))
 
 cast-result : tie.Need-cast-result
-cast-result c = let h = total-small _ (c .before .before .before .before .wide .ensures) (c .before .before .before .wide2 .ensures) _ (c .before .before .before .before .before .before .before .before .before .before .cell-count .ensures .0) _ _ (c .before .before .before .before .before .before .before .before .clear .ensures) _ _ (c .before .before .total-3bv .ensures) (c .before .before .before .before .before .before .before .before .before .before .before .before .pre .0 .sized) in omega (arith, h)
+cast-result c = let h = total-small _ (c .before .before .before .before .wide .ensures .0) (c .before .before .before .wide2 .ensures .0) _ (c .before .before .before .before .before .before .before .before .before .before .cell-count .ensures .0) _ _ (c .before .before .before .before .before .before .before .before .clear .ensures) _ _ (c .before .before .total-3bv .ensures) (c .before .before .before .before .before .before .before .before .before .before .before .before .pre .0 .sized) in omega (arith, h)
 
 same-length : tie.Need-same-length
 same-length c = search needs
 
 returns : tie.Need-returns
-returns c = total-made _ (c .before .before .before .before .wide .ensures) (c .before .before .before .wide2 .ensures) _ (c .before .before .before .before .before .before .before .before .before .before .cell-count .ensures .0) _ _ (c .before .before .before .before .before .before .before .before .clear .ensures) _ _ (c .before .before .total-3bv .ensures)
+returns c = total-made _ (c .before .before .before .before .wide .ensures .0) (c .before .before .before .wide2 .ensures .0) _ (c .before .before .before .before .before .before .before .before .before .before .cell-count .ensures .0) _ _ (c .before .before .before .before .before .before .before .before .clear .ensures) _ _ (c .before .before .total-3bv .ensures)
 
 pub total-on-spec : {M : Type 1} → statement M
 total-on-spec =

@@ -32,7 +32,7 @@ one-if-requires-2 : tie.Need-one-if-requires-2
 one-if-requires-2 c κs = search needs
 
 returns : tie.Need-returns
-returns c = numbers-are (c .before .before .before .before .before .before .before .before .before .before .before .before .args .p) (c .before .before .before .before .before .before .before .before .wide .ensures .0) (c .before .before .before .before .before .before .before .wide2 .ensures .0) (c .before .before .before .before .before .before .wide3 .ensures .0) (c .before .before .before .before .before .one-if .ensures) (c .before .before .before .wide4 .ensures .0) (c .before .before .before .before .game-number .ensures) (c .before .wide5 .ensures .0) (c .before .before .mouse-number .ensures) (c .one-if2 .ensures)
+returns c = numbers-are (c .before .before .before .before .before .before .before .before .before .before .before .before .args .p) (c .before .before .before .before .before .before .before .before .wide .ensures .0) (c .before .before .before .before .before .before .before .wide2 .ensures .0) (c .before .before .before .before .before .before .wide3 .ensures .0) (c .before .before .before .before .before .one-if .ensures .0) (c .before .before .before .wide4 .ensures .0) (c .before .before .before .before .game-number .ensures) (c .before .wide5 .ensures .0) (c .before .before .mouse-number .ensures) (c .one-if2 .ensures .0)
 
 pub numbers-spec : {M : Type 1} → statement M
 numbers-spec =

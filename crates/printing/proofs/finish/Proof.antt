@@ -12,10 +12,10 @@ wide-requires-2 : tie.Need-wide-requires-2
 wide-requires-2 c κs = search needs
 
 total-3bv-requires : tie.Need-total-3bv-requires
-total-3bv-requires c κs = ending-asks _ (c .before .before .before .before .before .before .args .p) (c .before .before .wide .ensures) (c .before .wide2 .ensures) (c .before .before .before .before .before .before .pre .0) (c .before .before .before .before .before .before .pre .1 .0)
+total-3bv-requires c κs = ending-asks _ (c .before .before .before .before .before .before .args .p) (c .before .before .wide .ensures .0) (c .before .wide2 .ensures .0) (c .before .before .before .before .before .before .pre .0) (c .before .before .before .before .before .before .pre .1 .0)
 
 cast-total : tie.Need-cast-total
-cast-total c = let h = ending-small _ (c .before .before .before .before .before .before .before .before .before .args .p) (c .before .before .before .before .before .wide .ensures) (c .before .before .before .before .wide2 .ensures) (c .before .before .before .before .before .before .before .before .before .pre .0) (c .before .before .total-3bv .ensures) in omega (arith, h)
+cast-total c = let h = ending-small _ (c .before .before .before .before .before .before .before .before .before .args .p) (c .before .before .before .before .before .wide .ensures .0) (c .before .before .before .before .wide2 .ensures .0) (c .before .before .before .before .before .before .before .before .before .pre .0) (c .before .before .total-3bv .ensures) in omega (arith, h)
 
 left-of-requires : tie.Need-left-of-requires
 left-of-requires c κs = search needs
@@ -30,7 +30,7 @@ same-length-2 : tie.Need-same-length-2
 same-length-2 c = search needs
 
 returns : tie.Need-returns
-returns c = ending-put _ (c .before .before .before .before .before .before .before .before .before .before .before .before .before .before .args .p) (c .before .before .before .before .before .before .before .before .before .before .wide .ensures) (c .before .before .before .before .before .before .before .before .before .wide2 .ensures) (c .before .before .before .before .before .before .before .before .before .before .before .before .before .before .args .shown .now) (c .before .before .before .before .before .before .before .total-3bv .ensures) (c .before .before .before .before .left-of .ensures) (c .before .before .put-end .ensures)
+returns c = ending-put _ (c .before .before .before .before .before .before .before .before .before .before .before .before .before .before .args .p) (c .before .before .before .before .before .before .before .before .before .before .wide .ensures .0) (c .before .before .before .before .before .before .before .before .before .wide2 .ensures .0) (c .before .before .before .before .before .before .before .before .before .before .before .before .before .before .args .shown .now) (c .before .before .before .before .before .before .before .total-3bv .ensures) (c .before .before .before .before .left-of .ensures) (c .before .before .put-end .ensures)
 
 pub finish-spec : {M : Type 1} → statement M
 finish-spec =

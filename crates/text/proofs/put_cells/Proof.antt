@@ -26,7 +26,7 @@ wide-requires : tie.Need-wide-requires Inv-loop μ-loop
 wide-requires c κs = search needs
 
 put-number-requires : tie.Need-put-number-requires Inv-loop μ-loop
-put-number-requires c κs = leads-room _ _ (c .before .before .before .before .before .before .before .pre) (c .before .before .before .before .loop .inv) (spaced-turn _ _ (c .wide .ensures) (c .before .before .before .loop-test .taken))
+put-number-requires c κs = leads-room _ _ (c .before .before .before .before .before .before .before .pre) (c .before .before .before .before .loop .inv) (spaced-turn _ _ (c .wide .ensures .0) (c .before .before .before .loop-test .taken))
 
 add-i : tie.Need-add-i Inv-loop μ-loop
 add-i c = search needs
@@ -35,7 +35,7 @@ loop-less : tie.Need-loop-less Inv-loop μ-loop
 loop-less c = omega arith
 
 loop-again : tie.Need-loop-again Inv-loop μ-loop
-loop-again c = leads-turn _ _ (c .before .before .before .before .before .before .before .loop .inv) (spaced-turn _ _ (c .before .before .before .wide .ensures) (c .before .before .before .before .before .before .loop-test .taken)) (c .before .before .put-number .ensures)
+loop-again c = leads-turn _ _ (c .before .before .before .before .before .before .before .loop .inv) (spaced-turn _ _ (c .before .before .before .wide .ensures .0) (c .before .before .before .before .before .before .loop-test .taken)) (c .before .before .put-number .ensures)
 
 same-length : tie.Need-same-length Inv-loop μ-loop
 same-length c = c .before .loop .inv .long

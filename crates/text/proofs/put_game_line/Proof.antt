@@ -27,13 +27,13 @@ slice-aggregate-put-word-line-2 : tie.Need-slice-aggregate-put-word-line-2
 slice-aggregate-put-word-line-2 c = search needs
 
 put-word-line-requires : tie.Need-put-word-line-requires
-put-word-line-requires c κs = room-within 21 (game-length _ _ _ _ (omega arith) (omega arith) (omega arith) (is-bit (c .before .before .before .before .before .before .before .before .args .settings .question) (c .before .before .before .one-if .ensures))) (c .before .before .before .before .before .before .before .before .pre)
+put-word-line-requires c κs = room-within 21 (game-length _ _ _ _ (omega arith) (omega arith) (omega arith) (is-bit (c .before .before .before .before .before .before .before .before .args .settings .question) (c .before .before .before .one-if .ensures .0))) (c .before .before .before .before .before .before .before .before .pre)
 
 same-length : tie.Need-same-length
 same-length c = search needs
 
 returns : tie.Need-returns
-returns c = within (game-length _ _ _ _ (omega arith) (omega arith) (omega arith) (bit-le (c .before .before .before .before .before .before .before .before .before .before .before .args .settings .question))) (put-as (game-as (c .before .before .before .before .before .before .before .before .before .before .before .args .settings) (c .before .before .before .before .before .before .one-if .ensures)) (c .before .before .put-word-line .ensures))
+returns c = within (game-length _ _ _ _ (omega arith) (omega arith) (omega arith) (bit-le (c .before .before .before .before .before .before .before .before .before .before .before .args .settings .question))) (put-as (game-as (c .before .before .before .before .before .before .before .before .before .before .before .args .settings) (c .before .before .before .before .before .before .one-if .ensures .0)) (c .before .before .put-word-line .ensures))
 
 pub put-game-line-spec : {M : Type 1} → statement M
 put-game-line-spec =

@@ -1,8 +1,8 @@
--- `refusals::mode_ok` meets its contract.
+-- `cells::mode_ok` meets its contract.
 use mathlib.Core.Path.{refl}
 use Rattle.rules.specs.Calls.{modeOk}
-use Rattle.refusals.proofs.mode_ok.Statement.{statement}
-use Rattle.refusals.proofs.mode_ok.Tie as tie
+use Rattle.cells.proofs.mode_ok.Statement.{statement}
+use Rattle.cells.proofs.mode_ok.Tie as tie
 
 returns : tie.Need-returns
 unfolding modeOk
