@@ -35,11 +35,6 @@ face-number (pos n) v e = let h = leb-true n 8 v in rw (number-back n h) ((tt, r
 face-number (negsuc zero) v e = absurd (true≢false e)
 face-number (negsuc (suc n)) v e = absurd (let z = eqb-true (suc n) 0 v in omega arith)
 
--- a face is 0 to 8, or 15
-pub face-le : (z : ℤ) → valueOk z ≡ true → face z ≤ 15
-face-le (pos n) v = let h = leb-true n 8 v in omega arith
-face-le (negsuc n) v = omega arith
-
 -- a face that is not a mine's is at most 8
 pub face-safe : (z : ℤ) → valueOk z ≡ true → (face z ≡ 15 → ⊥) → face z ≤ 8
 face-safe (pos n) v h = leb-true n 8 v

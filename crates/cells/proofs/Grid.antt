@@ -52,10 +52,6 @@ cellBefore-le R C r c =
     omega (arith, cell-lt R C (r - 1) (c - 1) (omega arith) (omega arith)))
     (λ e. omega arith)
 
-pub neighbour-le : (R C i k : ℕ) → neighbour R C i k ≤ R * C
-unfolding neighbour
-neighbour-le R C i k = cellBefore-le R C (i / C + ninth k / 3) (i % C + ninth k % 3)
-
 -- a cell's neighbour, from its row and column
 pub neighbour-at : (R C row column k : ℕ) → column < C → cellBefore R C (row + ninth k / 3) (column + ninth k % 3) ≡ neighbour R C (cellOf C row column) k
 unfolding neighbour

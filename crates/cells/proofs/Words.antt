@@ -170,6 +170,11 @@ pub every-turn : (f : ℕ → Bool) (k : ℕ) → every f k ≡ true → f k ≡
 unfolding every
 every-turn f k e d = rw (add-one k) (and-both (every f k) (f k) e d)
 
+-- a loop without a branch: one number more tested
+pub every-more : (f : ℕ → Bool) (k : ℕ) (all one : Bool) → all ≡ every f k → one ≡ f k → (all && one) ≡ every f (k + 1)
+unfolding every
+every-more f k all one e d = rw (add-one k) (ap₂ (λ (a b : Bool). a && b) e d)
+
 -- ---- lists in order --------------------------------------------------------------------------------------------------------------------
 
 pub inOrder-length : {A : Type 0} (f : ℕ → A) (n : ℕ) → length (inOrder f n) ≡ n
@@ -189,11 +194,6 @@ stack-above w i v (suc n) h =
 pub stack-push : (w : List ℕ) (t q : ℕ) → t < length w → stackOf (set w t q) (t + 1) ≡ q ∷ stackOf w t
 unfolding stackOf
 stack-push w t q h = rw (add-one t) (ap₂ (λ (x : ℕ) (l : List ℕ). x ∷ l) (getD-set-same w t q 0 h) (stack-above w t q t (omega arith)))
-
-pub stack-pop : (w : List ℕ) (t : ℕ) → 0 < t → stackOf w t ≡ getD w (t - 1) 0 ∷ stackOf w (t - 1)
-unfolding stackOf
-stack-pop w zero h = absurd (omega arith)
-stack-pop w (suc t) h = let e : suc t - 1 ≡ t = omega arith in rw e
 
 pub stack-length : (w : List ℕ) (n : ℕ) → length (stackOf w n) ≡ n
 unfolding stackOf

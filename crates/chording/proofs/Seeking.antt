@@ -4,7 +4,6 @@ use mathlib.Core.Bool.{Bool, true, false, not, false≢true, _&&_}
 use mathlib.Core.List.{List}
 use Prim.Native.Nat.{ℕ, _+_, _-_, _*_, _<_, _≤_}
 use native.Mathlib.Omega.{arith}
-use native.Mathlib.Numerals.{add-one}
 use native.Mathlib.Decide.{ℕ-discrete}
 use native.Mathlib.Nat.{add-mul, mul-le-mul-right}
 use borrow.Author.Tests.{not-true, ltb-true, ltb-false}
@@ -110,11 +109,6 @@ useful-inner R C shown row c i =
   where
     tests : ℕ → ℕ → ℕ → Bool
     tests v f k = ltb v 8 && (eqb f v && ltb 0 k)
-
--- the loop without a branch: one cell more
-pub none-turn : (p : ℕ → Bool) (k : ℕ) (none useful : Bool) → none ≡ every (λ j. not (p j)) k → useful ≡ p k → (none && not useful) ≡ every (λ j. not (p j)) (k + 1)
-unfolding every
-none-turn p k none useful e d = rw (add-one k) (ap₂ (λ (a b : Bool). a && not b) e d)
 
 -- the row above, the row and the row below
 pub three-rows : (R C row : ℕ) → 1 ≤ row → row + 1 < R → (row - 1) * C + 3 * C ≤ R * C

@@ -1,8 +1,8 @@
 -- The win test in two parts: from a place to the end, and from the beginning to that place.
 use mathlib.Core.Path.{_≡_, _∙_, sym, refl, subst}
-use mathlib.Core.Bool.{Bool, true, false, _&&_, true≢false, false≢true}
+use mathlib.Core.Bool.{Bool, true, false, true≢false, false≢true}
 use mathlib.Core.List.{List}
-use Prim.Native.Nat.{ℕ, suc, _+_, _-_, _<_, _≤_}
+use Prim.Native.Nat.{ℕ, _+_, _-_, _<_, _≤_}
 use native.Mathlib.Omega.{arith}
 use native.Mathlib.Decide.{decLt}
 use lib.ListN.{length}
@@ -11,11 +11,6 @@ use Rattle.rules.specs.Words.{every}
 use Rattle.rules.specs.Clicks.{doneAt, isWon}
 use Rattle.cells.proofs.Words.{every-all, every-at, every-fails}
 use Rattle.clicks.specs.Room.{DoneBetween}
-
--- one place more
-pub every-more : (p : ℕ → Bool) (k : ℕ) (all one : Bool) → all ≡ every p k → one ≡ p k → (all && one) ≡ every p (k + 1)
-unfolding every
-every-more p k all one a e = let s : k + 1 ≡ suc k = omega arith in rw (s, a, e) refl
 
 module _ (B : List ℤ) (shown : List ℕ) where
   -- what the loop has passed

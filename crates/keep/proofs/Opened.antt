@@ -103,11 +103,7 @@ wrong-lawful : (q : Bool) (f : ℕ) → eqb f 15 ≡ false → cellLawful q true
 unfolding cellLawful
 wrong-lawful q f e = ap not e
 
--- what an opened cell shows is neither a flag nor 14, and is counted as open or hit
-face-flag : (f : ℕ) → (f ≤ 8) ⊎ (f ≡ 15) → isFlag f ≡ false
-face-flag f (inl h) = rw (ne-eqb f 11 (λ e. omega arith), ne-eqb f 14 (λ e. omega arith))
-face-flag f (inr h) = ap isFlag h
-
+-- what an opened cell shows is not 14
 face-14 : (f : ℕ) → (f ≤ 8) ⊎ (f ≡ 15) → eqb f 14 ≡ false
 face-14 f (inl h) = ne-eqb f 14 (λ e. omega arith)
 face-14 f (inr h) = ap (λ (y : ℕ). eqb y 14) h

@@ -53,10 +53,6 @@ eventsFrom s at g minesAt n =
 
 -- ---- mines: two-byte count, then row and column each, strictly rising in row order -----------------------------------------------------
 
--- the mine list of a section that starts at a place
-abbrev pub mineBytes : List ℕ → ℕ → ℕ → List ℕ
-mineBytes s at n = take (2 * n) (drop at s)
-
 -- each mine's two bytes are taken before they are tested; 42: a mine off the board or not rising (its row byte).
 -- the n-th mine of the bytes from `at` on, where `left` are still to come
 unfoldable pub minesFrom : List ℕ → ℕ → ℕ → ℕ → ℕ → ℕ → Book → Book

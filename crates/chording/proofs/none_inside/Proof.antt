@@ -5,7 +5,7 @@ use Prim.Native.Nat.{_+_, _-_, _≤_}
 use native.Mathlib.Omega.{arith}
 use Rattle.rules.specs.Words.{every}
 use Rattle.chording.specs.Seeking.{usefulInside}
-use Rattle.chording.proofs.Seeking.{none-turn}
+use Rattle.cells.proofs.Words.{every-more}
 use Rattle.chording.proofs.none_inside.Statement.{statement}
 use Rattle.chording.proofs.none_inside.Tie as tie
 
@@ -35,7 +35,7 @@ loop-less : tie.Need-loop-less Inv-loop μ-loop
 loop-less c = omega arith
 
 loop-again : tie.Need-loop-again Inv-loop μ-loop
-loop-again c = (omega arith, none-turn (λ j. usefulInside (c .before .before .before .before .args .columns) (c .before .before .before .before .args .shown .now) (c .before .before .before .before .args .above + j)) _ _ _ (c .before .before .loop .inv .1) (c .useful-inside .ensures))
+loop-again c = (omega arith, every-more (λ j. not (usefulInside (c .before .before .before .before .args .columns) (c .before .before .before .before .args .shown .now) (c .before .before .before .before .args .above + j))) _ _ _ (c .before .before .loop .inv .1) (ap not (c .useful-inside .ensures)))
 
 returns : tie.Need-returns Inv-loop μ-loop
 returns c = c .before .loop .inv .1 ∙ ap (every (λ j. not (usefulInside (c .before .before .before .args .columns) (c .before .before .before .args .shown .now) (c .before .before .before .args .above + j)))) (omega arith)

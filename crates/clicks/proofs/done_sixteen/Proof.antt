@@ -4,7 +4,7 @@ use Prim.Native.Nat.{_+_, _-_, _≤_}
 use native.Mathlib.Omega.{arith}
 use Rattle.rules.specs.Words.{every}
 use Rattle.rules.specs.Clicks.{doneAt}
-use Rattle.clicks.proofs.Winning.{every-more}
+use Rattle.cells.proofs.Words.{every-more}
 use Rattle.clicks.proofs.done_sixteen.Statement.{statement}
 use Rattle.clicks.proofs.done_sixteen.Tie as tie
 
