@@ -1,2 +1,2 @@
+pub mod Flowing
 pub mod Outcomes
-pub mod Stepping

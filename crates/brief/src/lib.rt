@@ -77,7 +77,7 @@ fn flag_at(p: Position, mines: &[i8], shown: &mut [u8], bits: &mut [u8], cell: u
     let n = p.counts.right + 1;
     let down = mouse::moved(2, p);
     let q = down.with_right(n);
-    let position = clicks::flag(q, mines, shown, bits, cell);
+    let position = marking::flag(q, mines, shown, bits, cell);
     Played {
         answer: 1,
         position,
@@ -135,7 +135,7 @@ fn number_at(p: Position, row: u8, column: u8, face: u8, mines: &[i8], shown: &m
     let q = z.with_solved_left(solved);
     let cell = mouse::cell(p.settings.columns, row, column);
     shown[cell] = face;
-    let won = clicks::is_win_near(mines, shown, cell);
+    let won = winning::is_win_near(mines, shown, cell);
     if won {
         let position = q.with_game(GameState::Win);
         return Played {

@@ -19,9 +19,10 @@ use Rattle.rules.specs.Passes.{Scan, noted, chordOne, chordScan, chordRound, ch
 use Rattle.cells.specs.Ground.{Valued, Fitting, Zeros}
 use Rattle.cells.proofs.Words.{and-left, bit-le, rounds-keep, Looping, left, looping-start, looping-turn, looping-less, looping-done}
 use Rattle.opening.proofs.Cost.{closed-most}
-use Rattle.clicks.specs.Room.{Laid, Roomy, closedIn, Acts, Fell, idle, fell}
-use Rattle.clicks.proofs.Ends.{chord-idle}
-use Rattle.clicks.proofs.Chord.{chord-fell}
+use Rattle.clicks.specs.Room.{Laid, Roomy, closedIn, Acts}
+use Rattle.chords.specs.Fell.{Fell, idle, fell}
+use Rattle.chords.proofs.Steps.{chord-idle}
+use Rattle.chords.proofs.Chord.{chord-fell}
 use Rattle.chording.specs.declared.Scanned.{Scanned}
 use Rattle.chording.specs.Seeking.{First}
 use Rattle.chording.specs.Scanning.{yes, scan, Scans}

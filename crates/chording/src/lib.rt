@@ -104,7 +104,7 @@ fn useful_from(shown: &[u8], rows: usize, columns: usize, row: usize, from: usiz
 {
     let mut column = from;
     while column < columns {
-        if clicks::useful_at(shown, rows, columns, row, column) {
+        if chords::useful_at(shown, rows, columns, row, column) {
             return column;
         }
         column += 1;
@@ -122,7 +122,7 @@ fn useful_of(shown: &[u8], rows: usize, columns: usize, row: usize) -> usize
     if !only_ends(shown, rows, columns, row) {
         return useful_from(shown, rows, columns, row, 0);
     }
-    if clicks::useful_at(shown, rows, columns, row, 0) {
+    if chords::useful_at(shown, rows, columns, row, 0) {
         return 0;
     }
     useful_from(shown, rows, columns, row, columns - 1)
@@ -173,7 +173,7 @@ fn chord_one(s: Scanned, mines: &[i8], shown: &mut [u8], work: &mut [u16], cell:
     if !playing(g) {
         return s;
     }
-    let o = clicks::perform_chord(p, mines, shown, work, cell);
+    let o = chords::perform_chord(p, mines, shown, work, cell);
     if o.answer == 0 {
         return s;
     }

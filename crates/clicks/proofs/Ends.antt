@@ -1,4 +1,4 @@
--- How an opening ends: the way through the code, and what it leaves of a desk; and the two cases of a chord.
+-- How an opening ends: the way through the code, and what it leaves of a desk.
 use mathlib.Core.Path.{_≡_, refl, ap, ap₂, _∙_}
 use mathlib.Core.Bool.{Bool, true, false}
 use mathlib.Core.List.{List, [], _∷_}
@@ -14,7 +14,7 @@ use Rattle.rules.specs.declared.GameState.the-variants.{Win, Loss}
 use Rattle.rules.specs.States.{withGame}
 use Rattle.rules.specs.Board.{faceAt}
 use Rattle.rules.specs.Opening.{Opened, refreshed, run, turns, shownAfter, stackAfter, hitAfter}
-use Rattle.rules.specs.Clicks.{Desk, Play, desk, done, showing, rowsOf, columnsOf, isWon, ended, chordIsUseful, closedAround, chordOpens, performChord}
+use Rattle.rules.specs.Clicks.{Desk, Play, desk, done, showing, isWon, ended}
 use Rattle.clicks.specs.Room.{Acts, opensWith}
 
 -- what an ending leaves: the opened board, and all but the game state as it was
@@ -78,14 +78,3 @@ module _ (B : List ℤ) (R C i : ℕ) (shown : List ℕ) (ten : getD shown i 0 �
   pub opened-number : _≡_ {A = Opened} (record { shown = set shown i (faceAt B i); hit = false }) (refreshed B R C (i ∷ []) shown)
   unfolding refreshed
   opened-number = let t : turns (R * C) ≡ suc (suc (8 * (R * C) + 6)) = omega arith in rw (t, number-runs (8 * (R * C) + 6)) refl
-
--- a chord runs, or it changes nothing
-module _ (B : List ℤ) (i : ℕ) (d : Desk) where
-  pub chord-idle : chordIsUseful (rowsOf d) (columnsOf d) (d .shown) i ≡ false → performChord B i d ≡ done 0 d
-  unfolding performChord
-  chord-idle e = simp e
-
-  pub chord-runs : chordIsUseful (rowsOf d) (columnsOf d) (d .shown) i ≡ true
-      → performChord B i d ≡ chordOpens B (closedAround (rowsOf d) (columnsOf d) (d .shown) i) d
-  unfolding performChord
-  chord-runs e = simp e

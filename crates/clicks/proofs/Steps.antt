@@ -1,4 +1,4 @@
--- The ways through a left click and a chord: from what the called functions ensure to the definition.
+-- The ways through a left click: from what the called functions ensure to the definition.
 use mathlib.Core.Path.{_≡_, refl, ap, sym, _∙_}
 use mathlib.Core.Bool.{Bool, true, false}
 use mathlib.Core.List.{List, [], _∷_}
@@ -11,20 +11,17 @@ use Rattle.rules.specs.declared.Position.{Position}
 use Rattle.rules.specs.declared.Played.{Played}
 use Rattle.rules.specs.declared.Cells.{Cells}
 use Rattle.rules.specs.Words.{pick, bit, stackOf}
-use Rattle.rules.specs.States.{withLeft, withLce, withSolvedLeft, withSolvedChord}
+use Rattle.rules.specs.States.{withLeft, withLce, withSolvedLeft}
 use Rattle.rules.specs.Board.{faceAt, mineAt, loneAt}
 use Rattle.rules.specs.Opening.{refreshed}
-use Rattle.rules.specs.Judging.{judgedLeft, openingsJudged, lones}
-use Rattle.rules.specs.Clicks.{Desk, desk, rowsOf, columnsOf, ended, solvesLeft, leftCounts, leftOpens, leftClick, chordIsUseful, closedAround, chordCounts, chordOpens, performChord}
+use Rattle.rules.specs.Judging.{judgedLeft}
+use Rattle.rules.specs.Clicks.{Desk, desk, rowsOf, columnsOf, ended, solvesLeft, leftCounts, leftOpens, leftClick}
 use Rattle.cells.specs.Ground.{Below}
 use Rattle.clicks.specs.Room.{Laid, Acts, Adds, opensWith, leftAdds, Collected}
-use Rattle.clicks.proofs.Ends.{chord-idle, chord-runs}
 
 -- the table stays laid where the size and the work stay
 pub laid-same : {B : List ℤ} {p q : Position} {shown work work′ : List ℕ} → Laid B p shown work → q .settings ≡ p .settings → work′ ≡ work → Laid B q shown work′
 laid-same l s e = record { fits = rw (s, e) (l .fits); zeros = rw (s, e) (l .zeros) }
-
--- ---- left ------------------------------------------------------------------------------------------------------------------------------
 
 module _ (B : List ℤ) (d : Desk) (i f : ℕ) (face : f ≡ faceAt B i) where
   pub solves-zero : f ≡ 0 → solvesLeft B d i ≡ judgedLeft B (rowsOf d) (columnsOf d) (d .shown) i
@@ -98,41 +95,3 @@ pub only-opens : (B : List ℤ) (i : ℕ) (c : Cells) (p : Position) (shown work
     → Acts (opensWith B 2 (stackOf (c .at) (c .n))) p shown work r shown′ work′ → Acts (opensWith B 2 (i ∷ [])) p shown work r shown′ work′
 only-opens B i c p shown work k r shown′ work′ a =
     record { outcome = λ bits. a .outcome bits ∙ ap (λ (st : List ℕ). opensWith B 2 st (desk p shown bits)) (k .stack); same = a .same }
-
--- ---- chord -----------------------------------------------------------------------------------------------------------------------------
-
-module _ (B : List ℤ) (p : Position) (shown work : List ℕ) (cells : List ℕ) where
-  pub chord-added : (lone judged : ℕ) (r : Position) (work′ : List ℕ) → lone ≡ lones B (p .settings .rows) (p .settings .columns) cells
-      → judged ≡ openingsJudged B (p .settings .rows) (p .settings .columns) shown cells
-      → r ≡ withSolvedChord p (p .secrets .«solved_chord» + lone + judged) → work′ ≡ work → Adds (chordCounts B cells) p shown work r work′
-  chord-added lone judged r work′ l j e w = record { outcome = λ bits. simp (e, l, j); same = w }
-
-module _ (B : List ℤ) (p : Position) (shown work : List ℕ) (i : ℕ) (u : Bool) (test : u ≡ chordIsUseful (p .settings .rows) (p .settings .columns) shown i) where
-  pub chord-none : u ≡ false → Acts (performChord B i) p shown work (record { answer = 0; position = p }) shown work
-  chord-none e = record { outcome = λ bits. sym (chord-idle B i (desk p shown bits) (sym test ∙ e)); same = refl }
-
-  module _ (c : Cells) (k : Collected (closedAround (p .settings .rows) (p .settings .columns) shown i) 8 c) (q : Position) (work′ : List ℕ)
-      (a : Adds (chordCounts B (stackOf (c .at) (c .n))) p shown work q work′) where
-    counts-settings : q .settings ≡ p .settings
-    counts-settings = ap (λ (d : Desk). d .position .settings) (a .outcome [])
-
-    pub chord-laid : Laid B p shown work → Laid B q shown work′
-    chord-laid l = laid-same l counts-settings (a .same)
-
-    pub chord-below : Below (p .settings .rows * p .settings .columns) (stackOf (c .at) (c .n)) → Below (q .settings .rows * q .settings .columns) (stackOf (c .at) (c .n))
-    chord-below b = rw counts-settings b
-
-    pub chord-done : u ≡ true → (r : Played) (shown′ work″ : List ℕ)
-        → Acts (opensWith B 3 (stackOf (c .at) (c .n))) q shown work′ r shown′ work″ → Acts (performChord B i) p shown work r shown′ work″
-    unfolding chordOpens
-    chord-done e r shown′ work″ o = record { outcome = λ bits. o .outcome bits ∙ way bits; same = o .same ∙ a .same }
-      where
-        start : (st : List ℕ) (bits : List ℕ) → opensWith B 3 st (chordCounts B st (desk p shown bits)) ≡ chordOpens B st (desk p shown bits)
-        start st bits = refl
-
-        way : (bits : List ℕ) → opensWith B 3 (stackOf (c .at) (c .n)) (desk q shown bits) ≡ performChord B i (desk p shown bits)
-        way bits =
-            ap (opensWith B 3 (stackOf (c .at) (c .n))) (a .outcome bits)
-            ∙ start (stackOf (c .at) (c .n)) bits
-            ∙ ap (λ (st : List ℕ). chordOpens B st (desk p shown bits)) (k .stack)
-            ∙ sym (chord-runs B i (desk p shown bits) (sym test ∙ e))

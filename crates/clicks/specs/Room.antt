@@ -1,18 +1,17 @@
 -- What the clicks require, the room that keeps their sums in range among it, and what they ensure.
 use mathlib.Core.Path.{_≡_}
-use mathlib.Core.Bool.{Bool, true, false}
 use mathlib.Core.List.{List}
-use Prim.Native.Nat.{ℕ, _+_, _*_, _<_, _≤_}
+use Prim.Native.Nat.{ℕ, _+_, _*_, _≤_}
 use lib.ListN.{length, set}
 use lib.IntN.{ℤ}
 use Rattle.rules.specs.declared.Position.{Position}
 use Rattle.rules.specs.declared.Played.{Played}
 use Rattle.rules.specs.declared.Cells.{Cells}
-use Rattle.rules.specs.Words.{every, pick, bit, stackOf}
+use Rattle.rules.specs.Words.{pick, stackOf}
 use Rattle.rules.specs.Lent.{workRoom}
 use Rattle.rules.specs.Board.{mineAt}
 use Rattle.rules.specs.Opening.{refreshed}
-use Rattle.rules.specs.Clicks.{doneAt, Desk, Play, desk, done, rowsOf, columnsOf, bitsWith, addsRce, ended, leftCounts}
+use Rattle.rules.specs.Clicks.{Desk, Play, desk, done, rowsOf, columnsOf, ended, leftCounts}
 use Rattle.rules.specs.Lawful.{countShown, shows}
 use Rattle.cells.specs.Ground.{Fitting, Zeros}
 
@@ -58,17 +57,6 @@ opensWith B n given d = ended B n d (refreshed B (rowsOf d) (columnsOf d) given 
 abbrev pub leftAdds : List ℤ → ℕ → Desk → Desk
 leftAdds B i d = pick (mineAt B i) d (leftCounts B d i)
 
--- the cells from one place up to another are done, or some cell before the end is not
-pub record DoneBetween (B : List ℤ) (shown : List ℕ) (from to : ℕ) (r : Bool) : Type 0 where
-  pub yes : r ≡ true → (i : ℕ) → from ≤ i → i < to → doneAt B shown i ≡ true
-  pub no : r ≡ false → (n : ℕ) → to ≤ n → every (doneAt B shown) n ≡ false
-
--- a new flag's bit, tested and then set
-pub record Marked (B : List ℤ) (bits : List ℕ) (i r : ℕ) (bits′ : List ℕ) : Type 0 where
-  pub adds : r ≡ bit (addsRce B bits i)
-  pub one : r ≤ 1
-  pub after : bits′ ≡ bitsWith B bits i
-
 -- one cell more
 abbrev pub oneMore : Cells → ℕ → Cells
 oneMore c q = record { at = set (c .at) (c .n) q; n = c .n + 1 }
@@ -78,12 +66,3 @@ pub record Collected (st : List ℕ) (k : ℕ) (c : Cells) : Type 0 where
   pub stack : stackOf (c .at) (c .n) ≡ st
   pub most : c .n ≤ k
   pub long : length (c .at) ≡ 8
-
--- ---- what a chord does to the room -----------------------------------------------------------------------------------------------------
-
--- either nothing changed, or the answer is not 0, fewer cells are closed, and what the next chord requires is there
-pub data Fell (d : Desk) (o : Play) : Type 0 where
-  idle : o ≡ done 0 d → Fell d o
-  fell : (o .answer ≡ 0 → ⊥) → closedIn (o .desk .shown) < closedIn (d .shown) → length (o .desk .shown) ≡ length (d .shown)
-      → o .desk .position .settings ≡ d .position .settings → o .desk .bits ≡ d .bits → (Roomy (d .position) (d .shown) → Roomy (o .desk .position) (o .desk .shown))
-      → Fell d o

@@ -174,7 +174,7 @@ fn flag_one(p: Position, mines: &[i8], shown: &mut [u8], bits: &mut [u8], cell: 
 {
     if shown[cell] == 10 {
         shown[cell] = 11;
-        clicks::mark_mine(mines, bits, cell);
+        marking::mark_mine(mines, bits, cell);
         return add_flag(p);
     }
     p

@@ -1,4 +1,3 @@
 pub mod Steps
 pub mod Flows
-pub mod Runs
 pub mod Answers

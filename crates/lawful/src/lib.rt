@@ -204,8 +204,8 @@ fn game_lawful(g: GameState, p: Position, mines: &[i8], shown: &[u8], c: Census)
             (c.flags == 0) & ((p.preflags == 0) & (!is_not_flag(mouse) & (c.opens == 0)))
         }
         GameState::PreFlaging => (c.flags <= p.preflags) & (c.opens == 0),
-        GameState::Playing => !clicks::is_win(mines, shown),
-        GameState::Win => clicks::is_win(mines, shown),
+        GameState::Playing => !winning::is_win(mines, shown),
+        GameState::Win => winning::is_win(mines, shown),
         GameState::Loss => true,
     }
 }

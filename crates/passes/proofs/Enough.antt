@@ -14,8 +14,9 @@ use Rattle.rules.specs.Passes.{Scan, Round, foundAny, chordOne, chordScan, chor
 use Rattle.cells.specs.Ground.{Valued}
 use Rattle.cells.proofs.Words.{rounds-keep, rounds-enough, rounds-over}
 use Rattle.opening.proofs.Cost.{closed-most}
-use Rattle.clicks.specs.Room.{closedIn, Fell, idle, fell}
-use Rattle.clicks.proofs.Chord.{chord-fell}
+use Rattle.clicks.specs.Room.{closedIn}
+use Rattle.chords.specs.Fell.{Fell, idle, fell}
+use Rattle.chords.proofs.Chord.{chord-fell}
 use Rattle.passes.specs.Passing.{going}
 use Rattle.chording.proofs.Chording.{Sits, noted-some, one-over, one-plays, one-idle, sits-long, Spent, spent-one, spent-pass, begun, round-keep, round-less}
 use Rattle.passes.proofs.Turns.{Like, turn-keep, turn-less}

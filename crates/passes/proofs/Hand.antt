@@ -19,9 +19,11 @@ use Rattle.rules.specs.Clicks.{Desk, Play, desk, done, rowsOf, columnsOf, cells
 use Rattle.rules.specs.Passes.{flagPass, chordPass, bothPass, modeBoth, modeFlag, modeChord, passesAfterFlag, passesAfterChord, rightClick, addDouble, addDce, thenPasses, chordingClick}
 use Rattle.cells.specs.Ground.{Valued}
 use Rattle.opening.proofs.Cost.{closed-set}
-use Rattle.clicks.specs.Room.{Laid, Roomy, Acts, Fell, idle, fell}
-use Rattle.clicks.proofs.Ends.{ending, chord-idle, chord-runs}
-use Rattle.clicks.proofs.Chord.{chord-fell}
+use Rattle.clicks.specs.Room.{Laid, Roomy, Acts}
+use Rattle.chords.specs.Fell.{Fell, idle, fell}
+use Rattle.clicks.proofs.Ends.{ending}
+use Rattle.chords.proofs.Steps.{chord-idle, chord-runs}
+use Rattle.chords.proofs.Chord.{chord-fell}
 use Rattle.chording.specs.declared.Scanned.{Scanned}
 use Rattle.chording.specs.Scanning.{Scans}
 use Rattle.passes.specs.Passing.{Prepared, RightRoom, ChordRoom, Leaves, counted}

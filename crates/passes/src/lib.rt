@@ -137,14 +137,14 @@ pub fn right_click(
     let n = p.counts.right + 1;
     let q = p.with_right(n);
     if shown[cell] == 10 {
-        let f = clicks::flag(q, mines, shown, bits, cell);
+        let f = marking::flag(q, mines, shown, bits, cell);
         let position = passes_after_flag(f, mines, shown, bits, work);
         return Played {
             answer: 1,
             position,
         };
     }
-    clicks::take_back(q, shown, cell)
+    marking::take_back(q, shown, cell)
 }
 
 // A chord by hand that opened adds to dce.
@@ -180,7 +180,7 @@ pub fn chording_click(
 {
     let n = p.counts.double + 1;
     let q = p.with_double(n);
-    let o = clicks::perform_chord(q, mines, shown, work, cell);
+    let o = chords::perform_chord(q, mines, shown, work, cell);
     let c = add_dce(o);
     let position = passes_after_chord(c.position, mines, shown, bits, work);
     Played {

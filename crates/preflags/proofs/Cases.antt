@@ -12,14 +12,19 @@ use Rattle.rules.specs.declared.Played.{Played}
 use Rattle.rules.specs.declared.Pointer.{Pointer}
 use Rattle.rules.specs.declared.Pointer.the-variants.{Cell, Off}
 use Rattle.rules.specs.declared.MouseState.the-variants.{UpDownNotFlag}
-use Rattle.rules.specs.States.{withRight, withMouse, withPreflags}
+use Rattle.rules.specs.States.{withRight, withMouse, withPreflags, withGame}
 use Rattle.rules.specs.Grid.{cellOf}
 use Rattle.rules.specs.Clicks.{desk, done}
 use Rattle.rules.specs.Passes.{rightClick}
 use Rattle.rules.specs.Mouse.{moved}
-use Rattle.rules.specs.Step.{cleared, clearedIf, lastTakenBack, preCell, preRight}
+use Rattle.rules.specs.Step.{cleared, clearedIf, lastTakenBack, preCell, preRight, rightAt, preFlag}
+use Rattle.rules.specs.declared.GameState.the-variants.{PreFlaging}
 
 module _ (B : List ℤ) (x : Pointer) (p q : Position) (shown bits : List ℕ) where
+  pub pre-flag-right : (y : Position) → y ≡ withPreflags p (p .preflags + 1) → q ≡ withGame y PreFlaging → preFlag B x (desk p shown bits) ≡ rightAt B x (desk q shown bits)
+  unfolding preFlag
+  pre-flag-right y e h = rw (h, e)
+
   pub pre-right-cell : (r c i : ℕ) → x ≡ Cell r c → i ≡ cellOf (p .settings .columns) r c → q ≡ moved 2 p → preRight B x (desk p shown bits) ≡ preCell B i (desk q shown bits)
   unfolding preRight
   pre-right-cell r c i e h f = rw (e, h, f)

@@ -1,4 +1,4 @@
-// Pre-flags set and taken back: the right button goes down in PreFlaging.
+// Pre-flags: one set, and the right button in PreFlaging, which takes one back.
 // Each function meets the definition of its name in rules' Step.
 ghost use mathlib.Core.Path.{_≡_};
 ghost use mathlib.Core.Bool.{not, _&&_};
@@ -8,9 +8,10 @@ ghost use lib.Dec.{eqb};
 ghost use lib.ListN.{length, getD, replicate};
 ghost use Rattle.rules.specs.Clicks.{desk};
 ghost use Rattle.rules.specs.Passes.{rightClick};
-ghost use Rattle.rules.specs.Step.{cleared, clearedIf, lastTakenBack, preCell, preRight};
+ghost use Rattle.rules.specs.Step.{cleared, clearedIf, lastTakenBack, preCell, preRight, preFlag};
 ghost use Rattle.keep.specs.Kept.{Inside};
 ghost use Rattle.buttons.specs.Able.{AbleAt, Plays};
+use rules::GameState;
 use rules::MouseState;
 use rules::Played;
 use rules::Pointer;
@@ -144,4 +145,24 @@ pub fn pre_right(
             }
         }
     }
+}
+
+// A flag before the game, on a cell showing 10.
+pub fn pre_flag(
+    p: Position,
+    x: Pointer,
+    mines: &[i8],
+    shown: &mut [u8],
+    bits: &mut [u8],
+    work: &mut [u16],
+) -> Played
+    requires { ⌜ AbleAt (now mines) p (now shown) (now bits) (now work) ⌝ }
+    requires { ⌜ Inside (p .settings) x ⌝ }
+    requires { ⌜ p .preflags ≤ 70000 ⌝ }
+    ensures { λ r. ⌜ Plays (preFlag (now (mines .entry)) x) p (now (shown .entry)) (now (bits .entry)) (now (work .entry)) r (now (shown .exit)) (now (bits .exit)) (now (work .exit)) ⌝ }
+{
+    let n = p.preflags + 1;
+    let y = p.with_preflags(n);
+    let q = y.with_game(GameState::PreFlaging);
+    buttons::right_at(q, x, mines, &mut *shown, &mut *bits, &mut *work)
 }

@@ -1,4 +1,4 @@
-// Plays packed steps with `board::step`, each from its own position: standard input has up to 1,000,000, and the outcome of each is a line.
+// Plays packed steps with `stepping::step`, each from its own position: standard input has up to 1,000,000, and the outcome of each is a line.
 // The library `packed` has the layout and the line. A step that is cut off ends the program.
 // The files stdin and stdout are the Rust's stored answers, made by `oracle/vectors`.
 ghost use mathlib.Core.Path.{_≡_};
@@ -29,7 +29,7 @@ fn tell_step(
 {
     packed::sign_all(bytes, &mut *mines);
     let p = packed::position_in(head);
-    let a = board::step(
+    let a = stepping::step(
         p,
         head[51],
         head[52],

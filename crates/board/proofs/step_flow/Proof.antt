@@ -2,7 +2,7 @@
 use mathlib.Core.Path.{_∙_, sym}
 use borrow.Author.Needs.{needs}
 use Rattle.rules.specs.Clicks.{desk}
-use Rattle.board.proofs.Stepping.{flow-unfit, flow-first, flow-done, first-large, any-accepted, flow-settings, flow-room, flow-kept, flow-whole}
+use Rattle.board.proofs.Flowing.{flow-unfit, flow-first, flow-done, first-large, any-accepted, flow-settings, flow-room, flow-kept, flow-whole}
 use Rattle.board.proofs.step_flow.Statement.{statement}
 use Rattle.board.proofs.step_flow.Tie as tie
 

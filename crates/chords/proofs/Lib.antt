@@ -1,0 +1,4 @@
+pub mod Useful
+pub mod Gather
+pub mod Steps
+pub mod Chord
