@@ -31,11 +31,11 @@ use Rattle.judging.proofs.Lones.{lone-number}
 use Rattle.clicks.specs.Room.{LeftRoom}
 use Rattle.clicks.proofs.Ends.{ended-won, ended-open, opened-number}
 use Rattle.clicks.proofs.Steps.{solves-number}
-use Rattle.keep.specs.Kept.{LawfulAt}
+use Rattle.keep.specs.Kept.{LawfulAt, Inside}
 use Rattle.keep.proofs.Room.{sound-small}
 use Rattle.brief.specs.declared.Brief.{Brief}
 use Rattle.brief.specs.declared.Brief.the-variants.{Done, Other}
-use Rattle.brief.specs.Briefly.{OnBoard, Plainly, Taken, Briefly}
+use Rattle.brief.specs.Briefly.{Plainly, Taken, Briefly}
 
 -- ---- what a lawful position gives ------------------------------------------------------------------------------------------------------
 
@@ -68,8 +68,8 @@ ample B p shown bits l =
       solved = omega (arith, s .solved);
     }
 
-pub on-board : (s : Settings) (row column : ℕ) → OnBoard s row column → cellOf (s .columns) row column < s .rows * s .columns
-on-board s row column o = cell-lt (s .rows) (s .columns) row column (o .above) (o .before)
+pub on-board : (s : Settings) (row column : ℕ) → Inside s (Cell row column) → cellOf (s .columns) row column < s .rows * s .columns
+on-board s row column o = cell-lt (s .rows) (s .columns) row column (o .0) (o .1)
 
 -- ---- rr --------------------------------------------------------------------------------------------------------------------------------
 
@@ -149,7 +149,7 @@ module _ (B : List ℤ) (row column f : ℕ) (p : Position) (shown bits : List �
       number-plays (sym e ∙ z) (subst (λ (j : ℕ). getD shown j 0 ≡ 10) c ten) (face ∙ ap (faceAt B) c) nonzero mine
 
 -- the counts of a left click on a number, by its 0 neighbours
-module _ (B : List ℤ) (row column f : ℕ) (p : Position) (shown : List ℕ) (mined : Mined B (p .settings .rows) (p .settings .columns)) (o : OnBoard (p .settings) row column) where
+module _ (B : List ℤ) (row column f : ℕ) (p : Position) (shown : List ℕ) (mined : Mined B (p .settings .rows) (p .settings .columns)) (o : Inside (p .settings) (Cell row column)) where
   abbrev at : ℕ
   at = cellOf (p .settings .columns) row column
 
@@ -213,10 +213,10 @@ module _ (B : List ℤ) (code row column : ℕ) (p : Position) (shown bits : Lis
   unfolding playLc
   lc-turns o e = rw e refl
 
-pub on-board-by : (s : Settings) (row column : ℕ) (w : Bool) → w ≡ (ltb row (s .rows) && ltb column (s .columns)) → not w ≡ false → OnBoard s row column
+pub on-board-by : (s : Settings) (row column : ℕ) (w : Bool) → w ≡ (ltb row (s .rows) && ltb column (s .columns)) → not w ≡ false → Inside s (Cell row column)
 on-board-by s row column w e n =
     let t = sym e ∙ not-false w n in
-    record { above = ltb-true row (s .rows) (and-left _ _ t); before = ltb-true column (s .columns) (and-right (ltb row (s .rows)) _ t) }
+    (ltb-true row (s .rows) (and-left _ _ t), ltb-true column (s .columns) (and-right (ltb row (s .rows)) _ t))
 
 pub taken : (p : Position) (code row column : ℕ) (b w : Bool) → b ≡ (isPlaying (p .game) && ltb code 4) → not b ≡ false → p .events < 65535
     → w ≡ (ltb row (p .settings .rows) && ltb column (p .settings .columns)) → not w ≡ false → Taken p code row column

@@ -6,18 +6,13 @@ use Prim.Native.Nat.{ℕ, _<_}
 use lib.Dec.{ltb}
 use lib.IntN.{ℤ}
 use Rattle.rules.specs.declared.Position.{Position}
-use Rattle.rules.specs.declared.Settings.{Settings}
 use Rattle.rules.specs.declared.Pointer.the-variants.{Cell}
 use Rattle.rules.specs.States.{isPlaying}
 use Rattle.rules.specs.Clicks.{Desk, Play, desk, done}
 use Rattle.rules.specs.Step.{eventOf, playing}
 use Rattle.brief.specs.declared.Brief.{Brief}
+use Rattle.keep.specs.Kept.{Inside}
 use Rattle.brief.specs.declared.Brief.the-variants.{Done, Other}
-
--- a row and a column of the board
-pub record OnBoard (s : Settings) (row column : ℕ) : Type 0 where
-  pub above : row < s .rows
-  pub before : column < s .columns
 
 -- an action at a desk
 abbrev pub Plainly : (Desk → Play) → Position → List ℕ → List ℕ → Brief → List ℕ → List ℕ → Type 0
@@ -28,7 +23,7 @@ Plainly f p shown bits Other shown′ bits′ = (shown′ ≡ shown) × (bits′
 pub record Taken (p : Position) (code row column : ℕ) : Type 0 where
   pub button : (isPlaying (p .game) && ltb code 4) ≡ true
   pub few : p .events < 65535
-  pub cell : OnBoard (p .settings) row column
+  pub cell : Inside (p .settings) (Cell row column)
 
 abbrev pub Briefly : List ℤ → ℕ → ℕ → ℕ → Position → List ℕ → List ℕ → Brief → List ℕ → List ℕ → Type 0
 Briefly B code row column p shown bits (Done o) shown′ bits′ =

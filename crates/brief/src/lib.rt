@@ -17,8 +17,8 @@ ghost use Rattle.rules.specs.Step.{move, playLr, playRc, playRr};
 ghost use Rattle.rules.specs.declared.Pointer.the-variants.{Cell};
 ghost use Rattle.cells.specs.Ground.{Mined, Valued};
 ghost use Rattle.clicks.specs.Room.{LeftRoom};
-ghost use Rattle.keep.specs.Kept.{LawfulAt};
-ghost use Rattle.brief.specs.Briefly.{OnBoard, Plainly, Briefly};
+ghost use Rattle.keep.specs.Kept.{LawfulAt, Inside};
+ghost use Rattle.brief.specs.Briefly.{Plainly, Briefly};
 use rules::GameState;
 use rules::Played;
 use rules::Position;
@@ -42,18 +42,6 @@ fn is_button(g: GameState, code: u8) -> bool
     }
 }
 
-// The mouse state moves on, and nothing else happens.
-fn turned(p: Position, e: usize) -> Played
-    requires { ⌜ e < 8 ⌝ }
-    ensures { λ r. ⌜ r ≡ record { answer = 0; position = moved e p } ⌝ }
-{
-    let position = mouse::moved(e, p);
-    Played {
-        answer: 0,
-        position,
-    }
-}
-
 // rr: the right button goes up, and with the left one up too, or after a chord, nothing is chorded.
 fn release_right(p: Position) -> Brief
     ensures { λ r. ⌜ ((B : List ℤ) (row column : ℕ) (shown bits : List ℕ) → Plainly (playRr B (Cell row column)) p shown bits r shown bits) ⌝ }
@@ -63,7 +51,7 @@ fn release_right(p: Position) -> Brief
     if mouse::both_down(m) {
         return Brief::Other;
     }
-    let o = turned(p, 3);
+    let o = mouse::moves(3, p);
     Brief::Done(o)
 }
 
@@ -94,7 +82,7 @@ fn press_right(
     bits: &mut [u8],
 ) -> Brief
     requires { ⌜ LawfulAt (now mines) (desk p (now shown) (now bits)) ⌝ }
-    requires { ⌜ OnBoard (p .settings) row column ⌝ }
+    requires { ⌜ Inside (p .settings) (Cell row column) ⌝ }
     ensures { λ r. ⌜ Plainly (playRc (now (mines .entry)) (Cell row column)) p (now (shown .entry)) (now (bits .entry)) r (now (shown .exit)) (now (bits .exit)) ⌝ }
 {
     if 12 <= p.settings.mode {
@@ -117,7 +105,7 @@ fn press_right(
 fn number_at(p: Position, row: u8, column: u8, face: u8, mines: &[i8], shown: &mut [u8]) -> Played
     requires { ⌜ Mined (now mines) (p .settings .rows) (p .settings .columns) ⌝ }
     requires { ⌜ length (now shown) ≡ p .settings .rows * p .settings .columns ⌝ }
-    requires { ⌜ OnBoard (p .settings) row column ⌝ }
+    requires { ⌜ Inside (p .settings) (Cell row column) ⌝ }
     requires { ⌜ LeftRoom p ⌝ }
     requires { ⌜ (face ≡ faceAt (now mines) (cellOf (p .settings .columns) row column)) × (face ≡ 0 → ⊥) × (face ≡ 15 → ⊥) ⌝ }
     ensures { λ r. ⌜ ((bits : List ℕ) → done (r .answer) (desk (r .position) (now (shown .exit)) bits) ≡ ended (now (mines .entry)) 2 (leftCounts (now (mines .entry)) (addLeft (move 1 (desk p (now (shown .entry)) bits))) (cellOf (p .settings .columns) row column)) (record { shown = set (now (shown .entry)) (cellOf (p .settings .columns) row column) face; hit = false })) ⌝ }
@@ -153,7 +141,7 @@ fn number_at(p: Position, row: u8, column: u8, face: u8, mines: &[i8], shown: &m
 fn release_left(p: Position, row: u8, column: u8, mines: &[i8], shown: &mut [u8]) -> Brief
     requires { ⌜ Mined (now mines) (p .settings .rows) (p .settings .columns) ⌝ }
     requires { ⌜ length (now shown) ≡ p .settings .rows * p .settings .columns ⌝ }
-    requires { ⌜ OnBoard (p .settings) row column ⌝ }
+    requires { ⌜ Inside (p .settings) (Cell row column) ⌝ }
     requires { ⌜ LeftRoom p ⌝ }
     ensures { λ r. ⌜ ((bits : List ℕ) → Plainly (playLr (now (mines .entry)) (Cell row column)) p (now (shown .entry)) bits r (now (shown .exit)) bits) ⌝ }
 {
@@ -198,7 +186,7 @@ pub fn play_brief(
         return Brief::Other;
     }
     if code == 0 {
-        let o = turned(p, 0);
+        let o = mouse::moves(0, p);
         return Brief::Done(o);
     }
     if code == 1 {

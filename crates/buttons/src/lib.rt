@@ -232,17 +232,6 @@ pub fn answered(p: Position) -> Played
     }
 }
 
-pub fn moves(e: usize, p: Position) -> Played
-    requires { ⌜ e < 8 ⌝ }
-    ensures { λ r. ⌜ r ≡ record { answer = 0; position = moved e p } ⌝ }
-{
-    let q = mouse::moved(e, p);
-    Played {
-        answer: 0,
-        position: q,
-    }
-}
-
 pub fn middled(p: Position, b: bool) -> Played
     ensures { λ r. ⌜ r ≡ record { answer = 0; position = withMiddle p b } ⌝ }
 {

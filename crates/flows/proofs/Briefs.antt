@@ -20,12 +20,12 @@ use Rattle.rules.specs.Clicks.{Desk, Play, desk, done, on}
 use Rattle.rules.specs.Mouse.{resolved, flipped}
 use Rattle.rules.specs.Step.{eventRefusal, errsPlaying, playing, eventOf, plainOf, byGame, pointerOf, refusalAt, playAt, stepOn}
 use Rattle.cells.proofs.Words.{and-left, and-right}
-use Rattle.keep.specs.Kept.{LawfulAt}
+use Rattle.keep.specs.Kept.{LawfulAt, Inside}
 use Rattle.keep.proofs.Passes.{playing-is}
 use Rattle.buttons.specs.Able.{Plays}
 use Rattle.brief.specs.declared.Brief.{Brief}
 use Rattle.brief.specs.declared.Brief.the-variants.{Done, Other}
-use Rattle.brief.specs.Briefly.{OnBoard, Briefly}
+use Rattle.brief.specs.Briefly.{Briefly}
 use Rattle.game.proofs.Steps.{step-played}
 
 -- it is not resolved and not refused
@@ -61,9 +61,9 @@ module _ (code : ℕ) (x : Pointer) (p : Position) (shown bits : List ℕ) (t : 
       ap (λ (s : Play). done (s .answer) (desk (withEvents (s .desk .position) (p .events + 1)) (s .desk .shown) (s .desk .bits)))
       (k ∙ sym (button-plain B code x (desk p shown bits) (on-button .1)) ∙ ap (λ (g : GameState). byGame g B (plainOf code x (desk p shown bits)) (on (desk p shown bits) (withMiddle p (flipped code (p .middle))))) (sym (on-button .0)))
 
-pointer-on : (s : Settings) (r c : ℕ) → OnBoard s r c → pointerOf s r c ≡ At (Cell r c)
+pointer-on : (s : Settings) (r c : ℕ) → Inside s (Cell r c) → pointerOf s r c ≡ At (Cell r c)
 unfolding pointerOf
-pointer-on s r c o = rw (lt-ltb r (s .rows) (o .above), lt-ltb c (s .columns) (o .before)) refl
+pointer-on s r c o = rw (lt-ltb r (s .rows) (o .0), lt-ltb c (s .columns) (o .1)) refl
 
 module _ (B : List ℤ) (code r c : ℕ) (p : Position) (shown bits : List ℕ) where
   -- played, and counted here

@@ -87,7 +87,7 @@ pub fn step_on(
     if code == 4 {
         return count_moves(p, 1);
     }
-    let n = mouse::refusal_at(p, &*shown, code, x);
+    let n = faults::refusal_at(p, &*shown, code, x);
     if n != 0 {
         return Played {
             answer: n,
@@ -105,7 +105,7 @@ pub fn refusal_on(p: Position, code: u8, row: u8, column: u8, shown: &[u8]) -> u
     let Decoded::At(x) = mouse::decode(s, row, column) else {
         return 30;
     };
-    mouse::refusal_at(p, shown, code, x)
+    faults::refusal_at(p, shown, code, x)
 }
 
 // The event of three bytes that starts at a place of a row of events.

@@ -1,19 +1,19 @@
-// What the hand's codes mean: the table of the seven mouse states, resolving l, r and m, pointers and events, and the refusals 30 to 33.
+// What the hand's codes mean: the table of the seven mouse states, resolving l, r and m, pointers and events.
 // Nothing here writes. The contracts cite rules' Mouse and Step.
 ghost use mathlib.Core.Path.{_≡_};
-ghost use mathlib.Core.Bool.{true, false, not, _&&_, _||_};
+ghost use mathlib.Core.Bool.{true, false, _&&_, _||_};
 ghost use mathlib.Core.List.{List};
 ghost use Prim.Native.Nat.{ℕ, _+_, _*_, _<_};
 ghost use lib.Dec.{eqb, ltb};
 ghost use lib.ListN.{getD};
-ghost use Rattle.rules.specs.Words.{pick, unless};
+ghost use Rattle.rules.specs.Words.{pick};
 ghost use Rattle.rules.specs.Grid.{cellOf};
 ghost use Rattle.rules.specs.Clicks.{desk};
 ghost use Rattle.rules.specs.Mouse.{nextMouse, moved as movedOf, bothDown, resolved, flipped};
-ghost use Rattle.rules.specs.Step.{onCell, seenAt, pointerOf, eventOf, errsPlaying, errsPreFlaging, isUnknown, badPreFlag, eventRefusal, plainOf, refusalAt};
+ghost use Rattle.rules.specs.Step.{onCell, seenAt, pointerOf, eventOf, plainOf};
 use rules::Decoded;
 use rules::Event;
-use rules::GameState;
+use rules::Played;
 use rules::Pointer;
 use rules::Position;
 use rules::Settings;
@@ -47,6 +47,18 @@ pub fn moved(e: usize, p: Position) -> Position
     let n = next_mouse(e, m);
     let to = rules::mouse_at(n);
     p.with_mouse(to)
+}
+
+// The mouse state moves on, and nothing else happens.
+pub fn moves(e: usize, p: Position) -> Played
+    requires { ⌜ e < 8 ⌝ }
+    ensures { λ r. ⌜ r ≡ record { answer = 0; position = movedOf e p } ⌝ }
+{
+    let q = moved(e, p);
+    Played {
+        answer: 0,
+        position: q,
+    }
 }
 
 // Chording and ChordingNotFlag.
@@ -203,159 +215,4 @@ pub fn plain(p: Position, code: u8, x: Pointer) -> Event
     let m = rules::mouse_number(mouse);
     let c = resolve(code, m, p.middle);
     event_of(c, x)
-}
-
-// ---- the refusals 31 to 33 -------------------------------------------------------------------------------------------------------------
-
-fn errs_playing(m: u8, e: Event) -> bool
-    ensures { λ r. ⌜ r ≡ errsPlaying m e ⌝ }
-{
-    match e {
-        Event::Lc(_) => false,
-        Event::Lr(_) => false,
-        Event::Rc(_) => false,
-        Event::Rr(_) => false,
-        Event::Mv(_) => false,
-        Event::Mc(_) => false,
-        Event::Mr(_) => false,
-        Event::Cc(_) => both_down(m),
-        Event::Pf(_) => true,
-        Event::Unknown {
-            code: _,
-            pointer: _,
-        } => true,
-    }
-}
-
-fn right_is_down(m: u8) -> bool
-    ensures { λ r. ⌜ r ≡ (eqb m 1 || (eqb m 2 || bothDown m)) ⌝ }
-{
-    if m == 1 {
-        return true;
-    }
-    if m == 2 {
-        return true;
-    }
-    both_down(m)
-}
-
-fn errs_pre_flaging(m: u8, e: Event) -> bool
-    ensures { λ r. ⌜ r ≡ errsPreFlaging m e ⌝ }
-{
-    match e {
-        Event::Lc(_) => false,
-        Event::Lr(_) => false,
-        Event::Rc(_) => right_is_down(m),
-        Event::Rr(_) => false,
-        Event::Mv(_) => false,
-        Event::Mc(_) => false,
-        Event::Mr(_) => false,
-        Event::Cc(_) => both_down(m),
-        Event::Pf(_) => false,
-        Event::Unknown {
-            code: _,
-            pointer: _,
-        } => true,
-    }
-}
-
-fn is_unknown(e: Event) -> bool
-    ensures { λ r. ⌜ r ≡ isUnknown e ⌝ }
-{
-    match e {
-        Event::Lc(_) => false,
-        Event::Lr(_) => false,
-        Event::Rc(_) => false,
-        Event::Rr(_) => false,
-        Event::Mv(_) => false,
-        Event::Mc(_) => false,
-        Event::Mr(_) => false,
-        Event::Cc(_) => false,
-        Event::Pf(_) => false,
-        Event::Unknown {
-            code: _,
-            pointer: _,
-        } => true,
-    }
-}
-
-fn not_closed(p: Position, shown: &[u8], x: Pointer) -> bool
-    ensures { λ r. ⌜ ((bits : List ℕ) → r ≡ not (eqb (seenAt (desk p (now (shown .entry)) bits) x) 10)) ⌝ }
-{
-    let v = seen_at(p, shown, x);
-    v != 10
-}
-
-// pf off the board or on a cell not showing 10.
-fn bad_pre_flag(p: Position, shown: &[u8], e: Event) -> bool
-    ensures { λ r. ⌜ ((bits : List ℕ) → r ≡ badPreFlag (desk p (now (shown .entry)) bits) e) ⌝ }
-{
-    match e {
-        Event::Lc(_) => false,
-        Event::Lr(_) => false,
-        Event::Rc(_) => false,
-        Event::Rr(_) => false,
-        Event::Mv(_) => false,
-        Event::Mc(_) => false,
-        Event::Mr(_) => false,
-        Event::Cc(_) => false,
-        Event::Pf(x) => not_closed(p, shown, x),
-        Event::Unknown {
-            code: _,
-            pointer: _,
-        } => false,
-    }
-}
-
-// 32 before 33.
-fn first_of(bad: bool, errs: bool) -> u16
-    ensures { λ r. ⌜ r ≡ unless 32 (not bad) (unless 33 (not errs) 0) ⌝ }
-{
-    if bad {
-        return 32;
-    }
-    if errs {
-        return 33;
-    }
-    0
-}
-
-// 32 in Ready or PreFlaging, then 33; neither in Win or Loss.
-fn event_refusal(g: GameState, p: Position, shown: &[u8], e: Event) -> u16
-    ensures { λ r. ⌜ ((bits : List ℕ) → r ≡ eventRefusal g e (desk p (now (shown .entry)) bits)) ⌝ }
-{
-    match g {
-        GameState::Ready => {
-            let bad = bad_pre_flag(p, shown, e);
-            let errs = is_unknown(e);
-            first_of(bad, errs)
-        }
-        GameState::PreFlaging => {
-            let bad = bad_pre_flag(p, shown, e);
-            let mouse = p.mouse;
-            let m = rules::mouse_number(mouse);
-            let errs = errs_pre_flaging(m, e);
-            first_of(bad, errs)
-        }
-        GameState::Playing => {
-            let mouse = p.mouse;
-            let m = rules::mouse_number(mouse);
-            let errs = errs_playing(m, e);
-            first_of(false, errs)
-        }
-        GameState::Win => 0,
-        GameState::Loss => 0,
-    }
-}
-
-// 31, 32 and 33 of an event whose pointer is good; 0 for an event that is accepted.
-pub fn refusal_at(p: Position, shown: &[u8], code: u8, x: Pointer) -> u16
-    ensures { λ r. ⌜ ((bits : List ℕ) → r ≡ refusalAt code x (desk p (now (shown .entry)) bits)) ⌝ }
-{
-    if 65535 <= p.events {
-        return 31;
-    }
-    let e = plain(p, code, x);
-    let g = p.game;
-    event_refusal(g, p, shown, e)
 }

@@ -80,7 +80,7 @@ pub fn playing(
         Event::Mv(_) => buttons::answered(p),
         Event::Mc(_) => buttons::middled(p, true),
         Event::Mr(x) => play_mr(p, x, mines, &mut *shown, &mut *bits, &mut *work),
-        Event::Cc(_) => buttons::moves(7, p),
+        Event::Cc(_) => mouse::moves(7, p),
         Event::Pf(_) => buttons::answered(p),
         Event::Unknown {
             code: _,

@@ -85,13 +85,13 @@ pub fn ready(
 {
     match e {
         Event::Lc(x) => ready_lc(p, x),
-        Event::Lr(_) => buttons::moves(1, p),
+        Event::Lr(_) => mouse::moves(1, p),
         Event::Rc(x) => ready_rc(p, x, mines, &mut *shown, &mut *bits, &mut *work),
-        Event::Rr(_) => buttons::moves(3, p),
+        Event::Rr(_) => mouse::moves(3, p),
         Event::Mv(_) => buttons::answered(p),
         Event::Mc(_) => buttons::answered(p),
         Event::Mr(_) => buttons::answered(p),
-        Event::Cc(_) => buttons::moves(7, p),
+        Event::Cc(_) => mouse::moves(7, p),
         Event::Pf(x) => preflags::pre_flag(p, x, mines, &mut *shown, &mut *bits, &mut *work),
         Event::Unknown {
             code: _,

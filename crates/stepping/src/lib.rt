@@ -41,7 +41,7 @@ pub fn step(
     let Decoded::At(x) = mouse::decode(s, row, column) else {
         return calls::answer(30, p, 0);
     };
-    let k = mouse::refusal_at(p, &*shown, code, x);
+    let k = faults::refusal_at(p, &*shown, code, x);
     if k != 0 {
         return calls::answer(k, p, 0);
     }

@@ -23,11 +23,11 @@ within-requires c κs = search needs
 returns-3 : tie.Need-returns-3
 returns-3 c = search needs
 
-turned-requires : tie.Need-turned-requires
-turned-requires c κs = search needs
+moves-requires : tie.Need-moves-requires
+moves-requires c κs = search needs
 
 returns-4 : tie.Need-returns-4
-returns-4 c = let a = (c .before .before .before .before .before .before .before .before .before .before .args) in (taken (a .p) (a .code) (a .row) (a .column) _ _ (c .before .before .before .before .before .before .before .is-button .ensures) (c .before .before .before .before .before .before .if1 .left) (c .before .before .before .before .if2 .left) (c .before .before .before .within .ensures) (c .before .before .if3 .left), lc-turns (a .mines .now) (a .code) (a .row) (a .column) (a .p) _ _ _ (c .turned .ensures) ∙ code-lc (a .mines .now) (a .code) (a .row) (a .column) (a .p) _ _ (c .before .if4 .taken))
+returns-4 c = let a = (c .before .before .before .before .before .before .before .before .before .before .args) in (taken (a .p) (a .code) (a .row) (a .column) _ _ (c .before .before .before .before .before .before .before .is-button .ensures) (c .before .before .before .before .before .before .if1 .left) (c .before .before .before .before .if2 .left) (c .before .before .before .within .ensures) (c .before .before .if3 .left), lc-turns (a .mines .now) (a .code) (a .row) (a .column) (a .p) _ _ _ (c .moves .ensures) ∙ code-lc (a .mines .now) (a .code) (a .row) (a .column) (a .p) _ _ (c .before .if4 .taken))
 
 release-left-requires : tie.Need-release-left-requires
 release-left-requires c κs = let a = (c .before .before .before .before .before .before .before .before .before .before .before .args) in let m = ample _ (a .p) _ _ (c .before .before .before .before .before .before .before .before .before .before .before .pre) in (m .mined, (m .board, (on-board-by (a .p .settings) (a .row) (a .column) _ (c .before .before .before .before .within .ensures) (c .before .before .before .if3 .left), left-room m)))
@@ -65,7 +65,7 @@ play-brief-spec =
     returns-2
     within-requires
     returns-3
-    turned-requires
+    moves-requires
     returns-4
     release-left-requires
     same-length

@@ -1,8 +1,8 @@
 -- `mouse::errs_pre_flaging` meets its contract.
 use borrow.Author.Needs.{needs}
 use Rattle.rules.specs.Step.{errsPreFlaging}
-use Rattle.mouse.proofs.errs_pre_flaging.Statement.{statement}
-use Rattle.mouse.proofs.errs_pre_flaging.Tie as tie
+use Rattle.faults.proofs.errs_pre_flaging.Statement.{statement}
+use Rattle.faults.proofs.errs_pre_flaging.Tie as tie
 
 enum-told : tie.Need-enum-told
 enum-told c = search needs

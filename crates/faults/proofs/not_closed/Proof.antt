@@ -4,8 +4,8 @@ use Prim.Native.Nat.{ℕ}
 use mathlib.Core.Bool.{not}
 use lib.Dec.{eqb}
 use borrow.Author.Needs.{needs}
-use Rattle.mouse.proofs.not_closed.Statement.{statement}
-use Rattle.mouse.proofs.not_closed.Tie as tie
+use Rattle.faults.proofs.not_closed.Statement.{statement}
+use Rattle.faults.proofs.not_closed.Tie as tie
 
 seen-at-requires : tie.Need-seen-at-requires
 seen-at-requires c κs = search needs

@@ -2,8 +2,8 @@
 use borrow.Author.Tests.{lt-ltb, le-ltb}
 use borrow.Author.Needs.{needs}
 use Rattle.rules.specs.Step.{refusalAt}
-use Rattle.mouse.proofs.refusal_at.Statement.{statement}
-use Rattle.mouse.proofs.refusal_at.Tie as tie
+use Rattle.faults.proofs.refusal_at.Statement.{statement}
+use Rattle.faults.proofs.refusal_at.Tie as tie
 
 returns : tie.Need-returns
 unfolding refusalAt

@@ -1,8 +1,8 @@
 -- `mouse::errs_playing` meets its contract.
 use borrow.Author.Needs.{needs}
 use Rattle.rules.specs.Step.{errsPlaying}
-use Rattle.mouse.proofs.errs_playing.Statement.{statement}
-use Rattle.mouse.proofs.errs_playing.Tie as tie
+use Rattle.faults.proofs.errs_playing.Statement.{statement}
+use Rattle.faults.proofs.errs_playing.Tie as tie
 
 enum-told : tie.Need-enum-told
 enum-told c = search needs

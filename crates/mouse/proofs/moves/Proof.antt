@@ -1,8 +1,8 @@
--- `buttons::moves` meets its contract.
+-- `mouse::moves` meets its contract.
 use mathlib.Core.Path.{refl}
 use borrow.Author.Needs.{needs}
-use Rattle.buttons.proofs.moves.Statement.{statement}
-use Rattle.buttons.proofs.moves.Tie as tie
+use Rattle.mouse.proofs.moves.Statement.{statement}
+use Rattle.mouse.proofs.moves.Tie as tie
 
 moved-requires : tie.Need-moved-requires
 moved-requires c κs = search needs

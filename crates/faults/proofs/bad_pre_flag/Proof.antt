@@ -1,8 +1,8 @@
 -- `mouse::bad_pre_flag` meets its contract.
 use borrow.Author.Needs.{needs}
 use Rattle.rules.specs.Step.{badPreFlag}
-use Rattle.mouse.proofs.bad_pre_flag.Statement.{statement}
-use Rattle.mouse.proofs.bad_pre_flag.Tie as tie
+use Rattle.faults.proofs.bad_pre_flag.Statement.{statement}
+use Rattle.faults.proofs.bad_pre_flag.Tie as tie
 
 enum-told : tie.Need-enum-told
 enum-told c = search needs

@@ -1,8 +1,8 @@
 -- `mouse::event_refusal` meets its contract.
 use borrow.Author.Needs.{needs}
 use Rattle.rules.specs.Step.{eventRefusal}
-use Rattle.mouse.proofs.event_refusal.Statement.{statement}
-use Rattle.mouse.proofs.event_refusal.Tie as tie
+use Rattle.faults.proofs.event_refusal.Statement.{statement}
+use Rattle.faults.proofs.event_refusal.Tie as tie
 
 enum-told : tie.Need-enum-told
 enum-told c = search needs

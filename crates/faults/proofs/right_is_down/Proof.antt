@@ -1,8 +1,8 @@
 -- `mouse::right_is_down` meets its contract.
 use borrow.Author.Tests.{eq-eqb, ne-eqb}
 use borrow.Author.Needs.{needs}
-use Rattle.mouse.proofs.right_is_down.Statement.{statement}
-use Rattle.mouse.proofs.right_is_down.Tie as tie
+use Rattle.faults.proofs.right_is_down.Statement.{statement}
+use Rattle.faults.proofs.right_is_down.Tie as tie
 
 returns : tie.Need-returns
 returns c = simp (eq-eqb _ _ (c .if1 .taken))
