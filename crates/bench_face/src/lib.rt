@@ -1,12 +1,12 @@
 // What the bench calls: inner functions under plain names, numbers and slices only.
 ghost use mathlib.Core.List.{[], _∷_};
-ghost use Prim.Native.Nat.{ℕ, _*_, _<_};
+ghost use Prim.Native.Nat.{_*_, _<_};
 ghost use Rattle.rules.specs.Lent.{workRoom};
 ghost use Rattle.cells.specs.Ground.{Fitting, Zeros};
 ghost use lib.ListN.{length};
 ghost use Rattle.rules.specs.Printout.{printoutOf};
 ghost use Rattle.opening.specs.Parts.{Refreshed};
-ghost use Rattle.text.specs.Put.{PutWithin};
+ghost use Rattle.writing.specs.Put.{PutWithin};
 ghost use Rattle.player.specs.Printing.{Enough};
 use rules::Answer;
 use rules::Position;

@@ -1,3 +1,2 @@
-pub mod Lists
+pub mod Scans
 pub mod Tests
-pub mod Numbering

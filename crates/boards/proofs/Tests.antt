@@ -19,7 +19,7 @@ use Rattle.cells.specs.Ground.{faceIs, Mined}
 use Rattle.cells.proofs.Face.{values-valued}
 use Rattle.cells.proofs.Grid.{around-same, size-limits}
 use Rattle.boards.specs.Rows.{rowOk}
-use Rattle.boards.proofs.Lists.{every-rows}
+use Rattle.boards.proofs.Scans.{every-rows}
 
 -- ---- a value -----------------------------------------------------------------------------------------------------------------------------
 

@@ -37,7 +37,7 @@ pub fn check_board(rows: u8, columns: u8, mines: &[i8]) -> u16
 pub fn number_mines(rows: u8, columns: u8, list: &[u8], mines: &mut [i8]) -> u16
     ensures { λ r. ⌜ NumberMinesIs rows columns (now (list .entry)) (now (mines .entry)) r (now (mines .exit)) ⌝ }
 {
-    boards::number_mines(rows, columns, list, mines)
+    numbering::number_mines(rows, columns, list, mines)
 }
 
 // Work comes in as it comes: it is cleared first, and the count gives it back so.

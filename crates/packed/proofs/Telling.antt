@@ -6,10 +6,10 @@ use native.Mathlib.Omega.{arith}
 use lib.ListN.{length, getD, length-append}
 use Rattle.rules.specs.declared.Answer.{Answer}
 use Rattle.rules.specs.Printout.{decimal, spaced}
-use Rattle.text.specs.Put.{Room, Put, PutWithin}
-use Rattle.text.proofs.Decimal.{digits-most}
-use Rattle.text.proofs.Lengths.{few-any, few-below, below-all, spaced-length, room-within, within}
-use Rattle.text.proofs.Putting.{put-as}
+use Rattle.writing.specs.Put.{Room, Put, PutWithin}
+use Rattle.writing.proofs.Decimal.{digits-most}
+use Rattle.writing.proofs.Spaced.{few-any, few-below, below-all, spaced-length}
+use Rattle.writing.proofs.Putting.{room-within, within, put-as}
 use Rattle.packed.specs.Line.{numbersOf, outcomeLine, outcomeRoom}
 
 -- the line of a position's numbers

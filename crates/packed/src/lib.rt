@@ -4,7 +4,7 @@
 ghost use mathlib.Core.Path.{_≡_};
 ghost use Prim.Native.Nat.{_<_, _≤_};
 ghost use lib.ListN.{length};
-ghost use Rattle.text.specs.Put.{PutWithin};
+ghost use Rattle.writing.specs.Put.{PutWithin};
 ghost use Rattle.packed.specs.Packed.{twoAt, fourAt, settingsIn, countsIn, secretsIn, positionIn, signedOf, signedAll};
 ghost use Rattle.packed.specs.Line.{numbersOf, outcomeLine, outcomeRoom};
 use rules::Answer;
@@ -20,7 +20,7 @@ fn two_at(s: &[u8; 62], at: usize) -> u32
     requires { ⌜ at < 61 ⌝ }
     ensures { λ r. ⌜ (r ≡ twoAt (now (s .entry)) at) × (r < 65536) ⌝ }
 {
-    text::wide(s[at]) + 256 * text::wide(s[at + 1])
+    writing::wide(s[at]) + 256 * writing::wide(s[at + 1])
 }
 
 // A number of four bytes from a place on.
@@ -128,12 +128,12 @@ fn numbers(p: Position) -> [u32; 18]
     let c = p.counts;
     let k = p.secrets;
     [
-        text::wide(s.rows),
-        text::wide(s.columns),
-        text::wide(s.mode),
+        writing::wide(s.rows),
+        writing::wide(s.columns),
+        writing::wide(s.mode),
         cells::one_if(s.question),
-        text::wide(rules::game_number(g)),
-        text::wide(rules::mouse_number(m)),
+        writing::wide(rules::game_number(g)),
+        writing::wide(rules::mouse_number(m)),
         cells::one_if(p.middle),
         p.preflags,
         p.events,
@@ -155,9 +155,9 @@ pub fn put_outcome(out: &mut [u8], a: Answer, shown: &[u8], bits: &[u8]) -> usiz
 {
     let p = a.position;
     let ns = numbers(p);
-    let first = text::put_decimal(&mut *out, 0, a.number as u32);
-    let cells = text::put_spaced(&mut *out, first, &ns);
-    let bytes = text::put_cells(&mut *out, cells, shown);
-    let last = text::put_cells(&mut *out, bytes, bits);
-    text::put_byte(&mut *out, last, b'\n')
+    let first = writing::put_decimal(&mut *out, 0, a.number as u32);
+    let cells = writing::put_spaced(&mut *out, first, &ns);
+    let bytes = writing::put_cells(&mut *out, cells, shown);
+    let last = writing::put_cells(&mut *out, bytes, bits);
+    writing::put_byte(&mut *out, last, b'\n')
 }

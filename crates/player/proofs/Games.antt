@@ -22,8 +22,9 @@ use Rattle.book.specs.Written.{Writable}
 use Rattle.book.proofs.Accepting.{events-part}
 use Rattle.book.proofs.Writing.{accepted-writable}
 use Rattle.game.specs.Core.{Blank}
-use Rattle.text.specs.Put.{Put, PutWithin, RowsFit}
-use Rattle.text.proofs.Putting.{put-then, put-as, put-length}
+use Rattle.writing.specs.Put.{Put, PutWithin}
+use Rattle.writing.proofs.Putting.{put-then, put-as, put-length}
+use Rattle.text.specs.Rows.{RowsFit}
 use Rattle.text.proofs.Printed.{printout-played}
 use Rattle.player.specs.declared.Told.{Told}
 use Rattle.printing.specs.Boards.{Begun}

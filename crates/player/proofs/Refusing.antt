@@ -19,9 +19,9 @@ use Rattle.rules.specs.Book.{byteAt, wordAt, orElse, reaches, maxEvents, events
 use Rattle.rules.specs.Printout.{printoutBy, printoutOf}
 use Rattle.cells.proofs.Grid.{size-limits}
 use Rattle.book.proofs.Writing.{accepted-writable}
-use Rattle.text.specs.Put.{PutWithin}
+use Rattle.writing.specs.Put.{PutWithin}
+use Rattle.writing.proofs.Putting.{put-as}
 use Rattle.text.specs.Texts.{refusedText}
-use Rattle.text.proofs.Putting.{put-as}
 use Rattle.text.proofs.Printed.{printout-refused}
 use Rattle.printing.specs.Boards.{Fit}
 use Rattle.player.specs.Printing.{Enough}

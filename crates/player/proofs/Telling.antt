@@ -18,8 +18,8 @@ use Rattle.rules.specs.Printout.{eventLine, eventLines}
 use Rattle.keep.specs.Kept.{LawfulAt}
 use Rattle.buttons.specs.Able.{Plays}
 use Rattle.game.proofs.Flows.{Flowing, held, three, eventAt, flow-on, flow-refused, flow-cells, flow-bytes, flow-start, flow-end, event-left}
-use Rattle.text.specs.Put.{PutWithin}
-use Rattle.text.proofs.Putting.{Leads, leads-start, leads-turn, leads-done}
+use Rattle.writing.specs.Put.{PutWithin}
+use Rattle.writing.proofs.Putting.{Leads, leads-start, leads-turn, leads-done}
 use Rattle.player.specs.Printing.{EventsFit, EventsPrinted}
 
 -- the lines of the events from a place on

@@ -9,7 +9,7 @@ use Rattle.rules.specs.Clicks.{desk}
 use Rattle.rules.specs.Calls.{plays}
 use Rattle.rules.specs.Printout.{eventLines}
 use Rattle.game.specs.Core.{flowOn}
-use Rattle.text.specs.Put.{Put}
+use Rattle.writing.specs.Put.{Put}
 use Rattle.player.specs.declared.Told.{Told}
 
 -- whole events, no more than a book may have, and room for a line of 20 bytes for each

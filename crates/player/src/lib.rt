@@ -8,7 +8,7 @@ ghost use Rattle.rules.specs.Book.{bookOf};
 ghost use Rattle.rules.specs.Printout.{printoutOf};
 ghost use Rattle.keep.specs.Kept.{LawfulAt};
 ghost use Rattle.game.specs.Core.{Blank};
-ghost use Rattle.text.specs.Put.{PutWithin};
+ghost use Rattle.writing.specs.Put.{PutWithin};
 ghost use Rattle.printing.specs.Boards.{Fit};
 ghost use Rattle.player.specs.Printing.{EventsFit, EventsPrinted, Enough};
 use rules::Book;

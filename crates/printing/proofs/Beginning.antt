@@ -19,7 +19,7 @@ use Rattle.cells.proofs.Face.{values-valued}
 use Rattle.keep.proofs.Lawful.{board-accepted}
 use Rattle.keep.proofs.Fresh.{fresh-lawful}
 use Rattle.cells.proofs.Words.{inOrder-length}
-use Rattle.boards.proofs.Numbering.{numbered-accepted}
+use Rattle.numbering.proofs.Numbering.{numbered-accepted}
 use Rattle.book.specs.Parts.{partOf}
 use Rattle.book.proofs.Accepting.{mines-part}
 use Rattle.book.proofs.Book.{accepted-numbers}

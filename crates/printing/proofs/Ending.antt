@@ -14,7 +14,7 @@ use Rattle.cells.specs.Ground.{Mined, Zeros}
 use Rattle.judging.specs.Parts.{Lent}
 use Rattle.judging.proofs.Judging.{total-cells}
 use Rattle.game.specs.Core.{Blank}
-use Rattle.text.specs.Put.{PutWithin}
+use Rattle.writing.specs.Put.{PutWithin}
 use Rattle.text.specs.Texts.{endText}
 use Rattle.text.proofs.Printed.{end-same}
 

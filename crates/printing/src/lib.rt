@@ -11,7 +11,8 @@ ghost use Rattle.rules.specs.Book.{bookOf};
 ghost use Rattle.rules.specs.Printout.{lineOf, endLines};
 ghost use Rattle.cells.specs.Ground.{Mined};
 ghost use Rattle.game.specs.Core.{Blank};
-ghost use Rattle.text.specs.Put.{PutWithin, RowsFit};
+ghost use Rattle.writing.specs.Put.{PutWithin};
+ghost use Rattle.text.specs.Rows.{RowsFit};
 ghost use Rattle.printing.specs.Boards.{Fit, Begun};
 use rules::Book;
 use rules::Played;
@@ -33,7 +34,7 @@ pub fn begin(
     let rows = b.settings.rows;
     let columns = b.settings.columns;
     let list = book::mines(s, b);
-    boards::number_mines(rows, columns, list, &mut *mines);
+    numbering::number_mines(rows, columns, list, &mut *mines);
     cells::fill(&mut *shown, 10);
     cells::fill(&mut *bits, 0);
     let cells = boards::cell_count(rows, columns);

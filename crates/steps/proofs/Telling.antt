@@ -9,9 +9,8 @@ use Rattle.rules.specs.declared.Answer.{Answer}
 use Rattle.rules.specs.declared.Position.{Position}
 use Rattle.rules.specs.Clicks.{desk}
 use Rattle.rules.specs.Calls.{outcome, stepOf}
-use Rattle.text.specs.Put.{PutWithin}
-use Rattle.text.proofs.Lengths.{within}
-use Rattle.text.proofs.Putting.{put-as}
+use Rattle.writing.specs.Put.{PutWithin}
+use Rattle.writing.proofs.Putting.{within, put-as}
 use Rattle.packed.specs.Packed.{positionIn, signedAll}
 use Rattle.packed.specs.Line.{outcomeLine, outcomeRoom, lineAfter}
 use Rattle.steps.specs.Told.{stepLine}

@@ -4,7 +4,7 @@
 ghost use mathlib.Core.Path.{_≡_};
 ghost use Prim.Native.Nat.{_≤_};
 ghost use lib.ListN.{length};
-ghost use Rattle.text.specs.Put.{PutWithin};
+ghost use Rattle.writing.specs.Put.{PutWithin};
 ghost use Rattle.packed.specs.Line.{outcomeRoom};
 ghost use Rattle.steps.specs.Told.{stepLine, Rooms};
 use libc::STDIN_FILENO;

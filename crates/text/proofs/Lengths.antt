@@ -1,45 +1,18 @@
--- How long the lines can be: a number below a power of ten has at most so many digits, and every line's room follows.
+-- How long the printout's lines can be, and the room that follows.
 use mathlib.Core.Path.{_≡_, ap, _∙_}
 use mathlib.Core.List.{List, [], _∷_, _++_}
 use Prim.Native.Nat.{ℕ, zero, suc, _+_, _*_, _<_, _≤_}
 use native.Mathlib.Omega.{arith}
 use native.Mathlib.Nat.{mul-suc, suc-mul}
-use lib.ListN.{length, getD, drop, take, length-append, length-drop}
+use lib.ListN.{length, drop, take, length-append, length-drop}
 use lib.Seq.{length-take-le}
 use Rattle.rules.specs.Printout.{decimal, spaced, lineOf, wordLine, wordGame, wordRefused, wordAtPlace, rowLines}
 use Rattle.cells.specs.Ground.{Below}
-use Rattle.text.specs.Put.{Room, Put, PutWithin}
+use Rattle.writing.specs.Put.{Room}
+use Rattle.writing.proofs.Putting.{room-within}
+use Rattle.writing.proofs.Decimal.{decimal-length}
+use Rattle.writing.proofs.Spaced.{Few, few-below, few-any, spaced-none, spaced-length, one-longer, line-parts}
 use Rattle.text.specs.Texts.{refusedText}
-use Rattle.text.proofs.Putting.{put-then}
-use Rattle.text.proofs.Decimal.{ten, decimal-length, digits-most}
-use Rattle.text.proofs.Lines.{spaced-next, spaced-none, line-parts}
-
--- ---- lines -----------------------------------------------------------------------------------------------------------------------------
-
-one-longer : (x : ℕ) (xs : List ℕ) → length (spaced (x ∷ xs)) ≡ suc (length (decimal x) + length (spaced xs))
-one-longer x xs = ap length (spaced-next x xs) ∙ ap suc (length-append (decimal x) (spaced xs))
-
--- each number has at most so many digits
-abbrev pub Few : ℕ → List ℕ → Type 0
-Few k [] = Unit {0}
-Few k (x ∷ xs) = (length (decimal x) ≤ k) × Few k xs
-
-pub few-below : (g : ℕ) (ns : List ℕ) → Below (ten (suc g)) ns → Few (suc g) ns
-few-below g [] b = tt
-few-below g (x ∷ xs) b = (decimal-length g x (b .0), few-below g xs (b .1))
-
-pub few-any : (ns : List ℕ) → Few 10 ns
-few-any [] = tt
-few-any (x ∷ xs) = (let d = digits-most 10 x [] in omega arith, few-any xs)
-
-pub spaced-length : (k : ℕ) (ns : List ℕ) → Few k ns → length (spaced ns) ≤ suc k * length ns
-spaced-length k [] b = let e = ap length spaced-none in omega arith
-spaced-length k (x ∷ xs) b =
-    let rec = spaced-length k xs (b .1) in
-    let d = b .0 in
-    let e = one-longer x xs in
-    let m = mul-suc (suc k) (length xs) in
-    omega arith
 
 pub word-line-length : (k : ℕ) (word ns : List ℕ) → Few k ns → length (wordLine word ns) ≤ length word + suc k * length ns + 1
 word-line-length k word ns b =
@@ -93,27 +66,10 @@ refused-length number place =
     let d = length-append wordRefused (spaced (number ∷ []) ++ wordLine wordAtPlace (place ∷ [])) in
     omega arith
 
--- ---- from a bound to the room, and back ------------------------------------------------------------------------------------------------
-
-pub room-within : (most : ℕ) {text : List ℕ} {at : ℕ} {out : List ℕ} → length text ≤ most → at + most ≤ length out → Room text at out
-room-within most h f = record { fits = omega arith }
-
 pub refused-room : (number place : ℕ) {at : ℕ} {out : List ℕ} → at + 33 ≤ length out → Room (refusedText number place) at out
 refused-room number place h = room-within 33 (refused-length number place) h
 
-pub within : {most : ℕ} {text : List ℕ} {at r : ℕ} {out out′ : List ℕ} → length text ≤ most → Put text at out out′ r → PutWithin most text at out out′ r
-within h p = record { put = p; short = h }
-
-pub within-then : {k m n : ℕ} {a b : List ℕ} {at r r′ : ℕ} {out out′ out″ : List ℕ}
-    → m + n ≤ k → PutWithin m a at out out′ r → PutWithin n b r out′ out″ r′ → PutWithin k (a ++ b) at out out″ r′
-within-then {k} {m} {n} {a} {b} h p q =
-    record { put = put-then (p .put) (q .put); short = let l = length-append a b in let c = p .short in let d = q .short in omega arith }
-
 -- ---- the shown rows --------------------------------------------------------------------------------------------------------------------
-
-pub below-all : (m : ℕ) (l : List ℕ) → ((i : ℕ) → getD l i 0 < m) → Below m l
-below-all m [] h = tt
-below-all m (x ∷ xs) h = (h 0, below-all m xs (λ i. h (suc i)))
 
 below-take : (m n : ℕ) (l : List ℕ) → Below m l → Below m (take n l)
 below-take m zero l b = tt

@@ -7,9 +7,11 @@ use native.Mathlib.Nat.{suc-mul}
 use lib.ListN.{length, getD, drop, take, length-drop}
 use lib.Seq.{length-take-le, drop-drop}
 use Rattle.rules.specs.Printout.{lineOf, rowLines}
-use Rattle.text.specs.Put.{Room, Put, PutWithin, RowsFit}
-use Rattle.text.proofs.Putting.{Leads, leads-start, leads-room, leads-turn, leads-done}
-use Rattle.text.proofs.Lengths.{rows-length, below-all, room-within, within}
+use Rattle.writing.specs.Put.{Room, Put, PutWithin}
+use Rattle.writing.proofs.Putting.{Leads, leads-start, leads-room, leads-turn, leads-done, room-within, within}
+use Rattle.writing.proofs.Spaced.{below-all}
+use Rattle.text.specs.Rows.{RowsFit}
+use Rattle.text.proofs.Lengths.{rows-length}
 
 -- the cells from `from` to `end`
 abbrev pub rowOf : List ℕ → ℕ → ℕ → List ℕ

@@ -1,122 +1,26 @@
 // The printout's lines, written into a lent buffer: each function writes its text from a place on and answers the place after it.
-// The contracts cite rules/specs/Printout.antt for the texts and specs/Put.antt for what writing is; the caller gives the room.
-ghost use mathlib.Core.Path.{_≡_};
+// The contracts cite rules/specs/Printout.antt and specs/ for the texts and Put of writing for what writing is; the caller gives the room.
 ghost use mathlib.Core.List.{_∷_, []};
 ghost use Prim.Native.Nat.{_<_, _≤_, _+_, _*_};
 ghost use lib.ListN.{length};
-ghost use Rattle.rules.specs.Printout.{decimal, spaced, lineOf, wordLine, wordCounts, wordBv, gameLine, nineCounts, rowLines};
+ghost use Rattle.rules.specs.Printout.{lineOf, wordLine, wordCounts, wordBv, gameLine, nineCounts, rowLines};
+ghost use Rattle.writing.specs.Put.{Room, Put, PutWithin};
 ghost use Rattle.text.specs.Texts.{refusedText, endText};
-ghost use Rattle.text.specs.Put.{Room, Put, PutWithin, RowsFit};
+ghost use Rattle.text.specs.Rows.{RowsFit};
 use rules::Position;
 use rules::Settings;
 
 // Room for every printout: the settings' line, 8,192 events, the counts and the 3BV, and 2,048 cells.
 pub const ROOM: usize = 21 + 20 * 8192 + 131 + 4 * 2048;
 
-pub fn wide(x: u8) -> u32
-    ensures { λ r. ⌜ (r ≡ x) × (r < 256) ⌝ }
-{
-    x as u32
-}
-
-pub fn put_byte(out: &mut [u8], at: usize, b: u8) -> usize
-    requires { ⌜ Room (b ∷ []) at (now out) ⌝ }
-    ensures { λ r. ⌜ Put (b ∷ []) at (now (out .entry)) (now (out .exit)) r ⌝ }
-{
-    out[at] = b;
-    at + 1
-}
-
-fn put_bytes(out: &mut [u8], at: usize, word: &[u8]) -> usize
-    requires { ⌜ Room (now word) at (now out) ⌝ }
-    ensures { λ r. ⌜ Put (now (word .entry)) at (now (out .entry)) (now (out .exit)) r ⌝ }
-{
-    let mut o = at;
-    let mut i = 0;
-    while i < word.len() {
-        o = put_byte(out, o, word[i]);
-        i += 1;
-    }
-    o
-}
-
-// A number's decimal digits, the first ones first.
-pub fn put_decimal(out: &mut [u8], at: usize, n: u32) -> usize
-    requires { ⌜ Room (decimal n) at (now out) ⌝ }
-    ensures { λ r. ⌜ Put (decimal n) at (now (out .entry)) (now (out .exit)) r ⌝ }
-{
-    if n < 10 {
-        return put_byte(out, at, 48 + n as u8);
-    }
-    let next = put_decimal(out, at, n / 10);
-    put_byte(out, next, 48 + (n % 10) as u8)
-}
-
-// A number with a space before it.
-fn put_number(out: &mut [u8], at: usize, n: u32) -> usize
-    requires { ⌜ Room (32 ∷ decimal n) at (now out) ⌝ }
-    ensures { λ r. ⌜ Put (32 ∷ decimal n) at (now (out .entry)) (now (out .exit)) r ⌝ }
-{
-    let next = put_byte(out, at, b' ');
-    put_decimal(out, next, n)
-}
-
-// Numbers with a space before each.
-pub fn put_spaced(out: &mut [u8], at: usize, ns: &[u32]) -> usize
-    requires { ⌜ Room (spaced (now ns)) at (now out) ⌝ }
-    ensures { λ r. ⌜ Put (spaced (now (ns .entry))) at (now (out .entry)) (now (out .exit)) r ⌝ }
-{
-    let mut o = at;
-    let mut i = 0;
-    while i < ns.len() {
-        o = put_number(out, o, ns[i]);
-        i += 1;
-    }
-    o
-}
-
-// Cells with a space before each.
-pub fn put_cells(out: &mut [u8], at: usize, cells: &[u8]) -> usize
-    requires { ⌜ Room (spaced (now cells)) at (now out) ⌝ }
-    ensures { λ r. ⌜ Put (spaced (now (cells .entry))) at (now (out .entry)) (now (out .exit)) r ⌝ }
-{
-    let mut o = at;
-    let mut i = 0;
-    while i < cells.len() {
-        o = put_number(out, o, wide(cells[i]));
-        i += 1;
-    }
-    o
-}
-
-// A word, then numbers with a space before each, and the line's end.
-fn put_word_line(out: &mut [u8], at: usize, word: &[u8], ns: &[u32]) -> usize
-    requires { ⌜ Room (wordLine (now word) (now ns)) at (now out) ⌝ }
-    ensures { λ r. ⌜ Put (wordLine (now (word .entry)) (now (ns .entry))) at (now (out .entry)) (now (out .exit)) r ⌝ }
-{
-    let first = put_bytes(out, at, word);
-    let last = put_spaced(out, first, ns);
-    put_byte(out, last, b'\n')
-}
-
-// A number, then numbers with a space before each, and the line's end.
-fn put_line(out: &mut [u8], at: usize, n: u32, ns: &[u32]) -> usize
-    requires { ⌜ Room (lineOf (n ∷ now ns)) at (now out) ⌝ }
-    ensures { λ r. ⌜ Put (lineOf (n ∷ now (ns .entry))) at (now (out .entry)) (now (out .exit)) r ⌝ }
-{
-    let first = put_decimal(out, at, n);
-    let last = put_spaced(out, first, ns);
-    put_byte(out, last, b'\n')
-}
-
 // A row of the shown board.
 fn put_row(out: &mut [u8], at: usize, cells: &[u8]) -> usize
     requires { ⌜ (1 ≤ length (now cells)) × Room (lineOf (now cells)) at (now out) ⌝ }
     ensures { λ r. ⌜ Put (lineOf (now (cells .entry))) at (now (out .entry)) (now (out .exit)) r ⌝ }
 {
-    let first = put_decimal(out, at, wide(cells[0]));
-    let last = put_cells(out, first, &cells[1..]);
-    put_byte(out, last, b'\n')
+    let first = writing::put_decimal(out, at, writing::wide(cells[0]));
+    let last = writing::put_cells(out, first, &cells[1..]);
+    writing::put_byte(out, last, b'\n')
 }
 
 // The line of the settings.
@@ -129,7 +33,7 @@ pub fn put_game_line(out: &mut [u8], at: usize, settings: Settings) -> usize
     let mode = settings.mode as u32;
     let question = cells::one_if(settings.question);
     let ns = [rows, columns, mode, question];
-    put_word_line(out, at, b"game", &ns)
+    writing::put_word_line(out, at, b"game", &ns)
 }
 
 // The line of an event: its number, its answer, and the numbers of the game's and the mouse's state.
@@ -145,7 +49,7 @@ pub fn put_event_line(
     ensures { λ r. ⌜ PutWithin 20 (lineOf (number ∷ answer ∷ game ∷ mouse ∷ [])) at (now (out .entry)) (now (out .exit)) r ⌝ }
 {
     let ns = [answer as u32, game as u32, mouse as u32];
-    put_line(out, at, number as u32, &ns)
+    writing::put_line(out, at, number as u32, &ns)
 }
 
 // The line of the counts.
@@ -166,7 +70,7 @@ pub fn put_counts(out: &mut [u8], at: usize, p: Position) -> usize
         s.solved_left,
         s.solved_chord,
     ];
-    put_word_line(out, at, b"counts", &ns)
+    writing::put_word_line(out, at, b"counts", &ns)
 }
 
 // The line of the 3BV: the total, and what is left to solve.
@@ -175,7 +79,7 @@ pub fn put_bv(out: &mut [u8], at: usize, total: u32, left: u32) -> usize
     ensures { λ r. ⌜ PutWithin 25 (wordLine wordBv (total ∷ left ∷ [])) at (now (out .entry)) (now (out .exit)) r ⌝ }
 {
     let ns = [total, left];
-    put_word_line(out, at, b"bv", &ns)
+    writing::put_word_line(out, at, b"bv", &ns)
 }
 
 // The shown rows.
@@ -214,7 +118,7 @@ pub fn put_refused(out: &mut [u8], at: usize, number: u16, place: usize) -> usiz
 {
     let numbers = [number as u32];
     let places = [place as u32];
-    let first = put_bytes(out, at, b"refused");
-    let next = put_spaced(out, first, &numbers);
-    put_word_line(out, next, b" at", &places)
+    let first = writing::put_bytes(out, at, b"refused");
+    let next = writing::put_spaced(out, first, &numbers);
+    writing::put_word_line(out, next, b" at", &places)
 }

@@ -7,7 +7,7 @@ use borrow.Author.Needs.{needs}
 use Rattle.rules.specs.Words.{every}
 use Rattle.cells.proofs.Words.{every-fails, every-turn}
 use Rattle.boards.specs.Rows.{rowOk}
-use Rattle.boards.proofs.Lists.{every-end}
+use Rattle.boards.proofs.Scans.{every-end}
 use Rattle.boards.proofs.Tests.{says-no, says-yes, numbers-by-rows}
 use Rattle.boards.proofs.numbers_ok.Statement.{statement}
 use Rattle.boards.proofs.numbers_ok.Tie as tie

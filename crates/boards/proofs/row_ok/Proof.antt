@@ -9,7 +9,7 @@ use Rattle.rules.specs.Grid.{cellOf}
 use Rattle.rules.specs.Board.{numberOk}
 use Rattle.cells.proofs.Words.{every-fails, every-turn}
 use Rattle.boards.specs.Rows.{rowOk}
-use Rattle.boards.proofs.Lists.{every-end}
+use Rattle.boards.proofs.Scans.{every-end}
 use Rattle.boards.proofs.Tests.{says-no, says-yes}
 use Rattle.boards.proofs.row_ok.Statement.{statement}
 use Rattle.boards.proofs.row_ok.Tie as tie

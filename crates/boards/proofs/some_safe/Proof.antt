@@ -9,7 +9,7 @@ use lib.ListN.{length}
 use Rattle.rules.specs.Board.{someSafe, mineAt}
 use Rattle.rules.specs.Words.{every}
 use Rattle.cells.proofs.Words.{every-fails, every-turn}
-use Rattle.boards.proofs.Lists.{every-end}
+use Rattle.boards.proofs.Scans.{every-end}
 use Rattle.boards.proofs.some_safe.Statement.{statement}
 use Rattle.boards.proofs.some_safe.Tie as tie
 

@@ -10,7 +10,7 @@ use lib.IntN.{pos}
 use Rattle.rules.specs.Board.{valuesOk, valueOk}
 use Rattle.rules.specs.Words.{every}
 use Rattle.cells.proofs.Words.{every-fails, every-turn}
-use Rattle.boards.proofs.Lists.{every-end}
+use Rattle.boards.proofs.Scans.{every-end}
 use Rattle.boards.proofs.Tests.{value-passed}
 use Rattle.boards.proofs.values_ok.Statement.{statement}
 use Rattle.boards.proofs.values_ok.Tie as tie

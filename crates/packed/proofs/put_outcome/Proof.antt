@@ -1,6 +1,6 @@
 -- `packed::put_outcome` meets its contract: the answer, the position, the cells, the bits and the line's end, one after the other.
 use borrow.Author.Needs.{needs}
-use Rattle.text.proofs.Putting.{room-first, room-second, put-then}
+use Rattle.writing.proofs.Putting.{room-first, room-second, put-then}
 use Rattle.packed.proofs.Telling.{outcome-room, outcome-told}
 use Rattle.packed.proofs.put_outcome.Statement.{statement}
 use Rattle.packed.proofs.put_outcome.Tie as tie

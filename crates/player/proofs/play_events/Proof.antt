@@ -5,7 +5,7 @@ use Prim.Native.Nat.{_-_}
 use native.Mathlib.Omega.{arith}
 use lib.ListN.{length}
 use Rattle.game.proofs.Flows.{blank-kept}
-use Rattle.text.proofs.Putting.{put-length}
+use Rattle.writing.proofs.Putting.{put-length}
 use Rattle.player.proofs.Telling.{Telling, unplayed, telling-start, telling-left, telling-room, telling-number, telling-on, telling-end, telling-refused, telling-cells, telling-bytes}
 use Rattle.player.proofs.play_events.Statement.{statement}
 use Rattle.player.proofs.play_events.Tie as tie

@@ -1,7 +1,8 @@
 -- `text::put_bv` meets its contract: two numbers of at most ten digits, with the word, take at most 25 bytes.
 use mathlib.Core.List.{_∷_, []}
 use Rattle.rules.specs.Printout.{wordBv}
-use Rattle.text.proofs.Lengths.{word-line-most, room-within, within}
+use Rattle.text.proofs.Lengths.{word-line-most}
+use Rattle.writing.proofs.Putting.{room-within, within}
 use borrow.Author.Needs.{needs}
 use Rattle.text.proofs.put_bv.Statement.{statement}
 use Rattle.text.proofs.put_bv.Tie as tie

@@ -1,7 +1,8 @@
 -- `text::put_counts` meets its contract: nine numbers of at most ten digits, with the word, take at most 106 bytes.
 use mathlib.Core.List.{_∷_, []}
 use Rattle.rules.specs.Printout.{wordCounts}
-use Rattle.text.proofs.Lengths.{word-line-most, room-within, within}
+use Rattle.text.proofs.Lengths.{word-line-most}
+use Rattle.writing.proofs.Putting.{room-within, within}
 use borrow.Author.Needs.{needs}
 use Rattle.text.proofs.put_counts.Statement.{statement}
 use Rattle.text.proofs.put_counts.Tie as tie

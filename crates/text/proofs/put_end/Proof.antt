@@ -1,7 +1,7 @@
 -- `text::put_end` meets its contract: the three parts one after the other.
 use native.Mathlib.Omega.{arith}
 use native.Mathlib.Nat.{le-refl}
-use Rattle.text.proofs.Lengths.{within-then}
+use Rattle.writing.proofs.Putting.{within-then}
 use borrow.Author.Needs.{needs}
 use Rattle.text.proofs.put_end.Statement.{statement}
 use Rattle.text.proofs.put_end.Tie as tie

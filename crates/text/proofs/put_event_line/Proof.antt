@@ -1,6 +1,7 @@
 -- `text::put_event_line` meets its contract: two numbers of 16 bits and two of 8 take at most 20 bytes.
 use native.Mathlib.Omega.{arith}
-use Rattle.text.proofs.Lengths.{event-length, room-within, within}
+use Rattle.text.proofs.Lengths.{event-length}
+use Rattle.writing.proofs.Putting.{room-within, within}
 use borrow.Author.Needs.{needs}
 use Rattle.text.proofs.put_event_line.Statement.{statement}
 use Rattle.text.proofs.put_event_line.Tie as tie

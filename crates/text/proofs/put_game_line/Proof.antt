@@ -1,9 +1,9 @@
 -- `text::put_game_line` meets its contract: three bytes and a yes or no take at most 21 bytes with the word.
 use native.Mathlib.Omega.{arith}
 use Rattle.cells.proofs.Words.{is-bit, bit-le}
-use Rattle.text.proofs.Putting.{put-as}
+use Rattle.writing.proofs.Putting.{put-as, room-within, within}
 use Rattle.text.proofs.Lines.{game-as}
-use Rattle.text.proofs.Lengths.{game-length, room-within, within}
+use Rattle.text.proofs.Lengths.{game-length}
 use borrow.Author.Needs.{needs}
 use Rattle.text.proofs.put_game_line.Statement.{statement}
 use Rattle.text.proofs.put_game_line.Tie as tie

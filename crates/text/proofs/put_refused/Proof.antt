@@ -1,6 +1,6 @@
 -- `text::put_refused` meets its contract: the word, the number, and the place's line, one after the other.
-use Rattle.text.proofs.Putting.{room-first, room-second, put-then}
-use Rattle.text.proofs.Lengths.{refused-length, refused-room, within}
+use Rattle.writing.proofs.Putting.{room-first, room-second, put-then, within}
+use Rattle.text.proofs.Lengths.{refused-length, refused-room}
 use borrow.Author.Needs.{needs}
 use Rattle.text.proofs.put_refused.Statement.{statement}
 use Rattle.text.proofs.put_refused.Tie as tie

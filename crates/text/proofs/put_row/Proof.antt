@@ -1,5 +1,5 @@
 -- `text::put_row` meets its contract: the first cell, the others, the line's end, one after the other.
-use Rattle.text.proofs.Putting.{room-first, room-second, room-as, put-then, put-as}
+use Rattle.writing.proofs.Putting.{room-first, room-second, room-as, put-then, put-as}
 use mathlib.Core.Path.{sym}
 use Rattle.text.proofs.Lines.{row-parts}
 use borrow.Author.Needs.{needs}
