@@ -18,7 +18,8 @@ use Rattle.rules.specs.Grid.{cellOf}
 use Rattle.rules.specs.Clicks.{Desk, Play, desk, done}
 use Rattle.rules.specs.Mouse.{moved}
 use Rattle.clicks.specs.Room.{Laid, LeftRoom, Acts}
-use Rattle.passes.specs.Passing.{Prepared, RightRoom, ChordRoom, Leaves}
+use Rattle.passes.specs.Passing.{Prepared, Leaves}
+use Rattle.hands.specs.Hand.{RightRoom, ChordRoom}
 use Rattle.keep.specs.Kept.{Inside, InsideOf}
 use Rattle.buttons.specs.Able.{AbleAt, Plays}
 

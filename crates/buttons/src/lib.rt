@@ -67,7 +67,7 @@ pub fn right_on(
     requires { ⌜ i < p .settings .rows * p .settings .columns ⌝ }
     ensures { λ r. ⌜ Plays (rightClick (now (mines .entry)) i) p (now (shown .entry)) (now (bits .entry)) (now (work .entry)) r (now (shown .exit)) (now (bits .exit)) (now (work .exit)) ⌝ }
 {
-    passes::right_click(p, mines, &mut *shown, &mut *bits, &mut *work, i)
+    hands::right_click(p, mines, &mut *shown, &mut *bits, &mut *work, i)
 }
 
 pub fn chord_at(
@@ -85,7 +85,7 @@ pub fn chord_at(
     match x {
         Pointer::Cell { row, column } => {
             let i = mouse::cell(p.settings.columns, row, column);
-            passes::chording_click(p, mines, &mut *shown, &mut *bits, &mut *work, i)
+            hands::chording_click(p, mines, &mut *shown, &mut *bits, &mut *work, i)
         }
         Pointer::Off => Played {
             answer: 0,

@@ -1,3 +1,3 @@
 pub mod Turns
-pub mod Hand
+pub mod After
 pub mod Enough

@@ -1,7 +1,7 @@
 -- `passes::passes_after_chord` meets its contract: at each return the tests say which pass followed.
 use mathlib.Core.Path.{sym, _∙_}
 use borrow.Author.Tests.{not-true, not-false}
-use Rattle.passes.proofs.Hand.{chord-over, chord-both, chord-alone, chord-none, leaves-none, leaves-as, leaves-scan}
+use Rattle.passes.proofs.After.{chord-over, chord-both, chord-alone, chord-none, leaves-none, leaves-as, leaves-scan}
 use Rattle.passes.proofs.passes_after_chord.Statement.{statement}
 use Rattle.passes.proofs.passes_after_chord.Tie as tie
 

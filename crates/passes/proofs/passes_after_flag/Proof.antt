@@ -1,7 +1,7 @@
 -- `passes::passes_after_flag` meets its contract: at each return the tests say which pass followed.
 use mathlib.Core.Path.{sym, _∙_}
 use borrow.Author.Tests.{not-true, not-false}
-use Rattle.passes.proofs.Hand.{flag-over, flag-both, flag-alone, flag-none, leaves-none, leaves-as}
+use Rattle.passes.proofs.After.{flag-over, flag-both, flag-alone, flag-none, leaves-none, leaves-as}
 use Rattle.passes.proofs.passes_after_flag.Statement.{statement}
 use Rattle.passes.proofs.passes_after_flag.Tie as tie
 

@@ -1,8 +1,8 @@
 -- `passes::add_dce` meets its contract.
 use borrow.Author.Tests.{eq-eqb, ne-eqb}
 use borrow.Author.Needs.{needs}
-use Rattle.passes.proofs.add_dce.Statement.{statement}
-use Rattle.passes.proofs.add_dce.Tie as tie
+use Rattle.hands.proofs.add_dce.Statement.{statement}
+use Rattle.hands.proofs.add_dce.Tie as tie
 
 returns : tie.Need-returns
 returns c = simp (eq-eqb _ _ (c .if1 .taken))

@@ -1,4 +1,4 @@
--- Which passes follow, and the right click and the chord by hand, from their parts.
+-- The right click and the chord by hand, from their parts.
 use mathlib.Core.Path.{_≡_, refl, ap, sym, _∙_, subst⁻¹}
 use mathlib.Core.Bool.{Bool, true, false}
 use mathlib.Core.List.{List}
@@ -13,10 +13,10 @@ use Rattle.rules.specs.declared.Counts.{Counts}
 use Rattle.rules.specs.declared.Position.{Position}
 use Rattle.rules.specs.declared.Played.{Played}
 use Rattle.rules.specs.Words.{pick}
-use Rattle.rules.specs.States.{isPlaying, withRight, withDouble, withDce}
+use Rattle.rules.specs.States.{withRight, withDouble, withDce}
 use Rattle.rules.specs.Opening.{refreshed}
 use Rattle.rules.specs.Clicks.{Desk, Play, desk, done, rowsOf, columnsOf, cellsOf, addRight, flagged, takeBack, chordIsUseful, closedAround, chordCounts, chordOpens, performChord}
-use Rattle.rules.specs.Passes.{flagPass, chordPass, bothPass, modeBoth, modeFlag, modeChord, passesAfterFlag, passesAfterChord, rightClick, addDouble, addDce, thenPasses, chordingClick}
+use Rattle.rules.specs.Passes.{passesAfterFlag, passesAfterChord, rightClick, addDouble, addDce, thenPasses, chordingClick}
 use Rattle.cells.specs.Ground.{Valued}
 use Rattle.opening.proofs.Cost.{closed-set}
 use Rattle.clicks.specs.Room.{Laid, Roomy, Acts}
@@ -24,58 +24,10 @@ use Rattle.chords.specs.Fell.{Fell, idle, fell}
 use Rattle.clicks.proofs.Ends.{ending}
 use Rattle.chords.proofs.Steps.{chord-idle, chord-runs}
 use Rattle.chords.proofs.Chord.{chord-fell}
-use Rattle.chording.specs.declared.Scanned.{Scanned}
-use Rattle.chording.specs.Scanning.{Scans}
-use Rattle.passes.specs.Passing.{Prepared, RightRoom, ChordRoom, Leaves, counted}
+use Rattle.passes.specs.Passing.{Prepared, Leaves}
+use Rattle.hands.specs.Hand.{RightRoom, ChordRoom, counted}
 use Rattle.flagging.proofs.Flagging.{mark-length}
 use Rattle.passes.proofs.Turns.{Like, like-prepared}
-
--- ---- which passes follow ---------------------------------------------------------------------------------------------------------------
-
-module _ (B : List ℤ) (d : Desk) where
-  pub flag-over : isPlaying (d .position .game) ≡ false → passesAfterFlag B d ≡ d
-  unfolding passesAfterFlag
-  flag-over e = rw e
-
-  pub flag-both : isPlaying (d .position .game) ≡ true → modeBoth (d .position .settings .mode) ≡ true → passesAfterFlag B d ≡ bothPass B d
-  unfolding passesAfterFlag
-  flag-both e b = simp (e, b)
-
-  pub flag-alone : isPlaying (d .position .game) ≡ true → modeBoth (d .position .settings .mode) ≡ false → modeFlag (d .position .settings .mode) ≡ true → passesAfterFlag B d ≡ flagPass B d
-  unfolding passesAfterFlag
-  flag-alone e b m = simp (e, b, m)
-
-  pub flag-none : isPlaying (d .position .game) ≡ true → modeBoth (d .position .settings .mode) ≡ false → modeFlag (d .position .settings .mode) ≡ false → passesAfterFlag B d ≡ d
-  unfolding passesAfterFlag
-  flag-none e b m = simp (e, b, m)
-
-  pub chord-over : isPlaying (d .position .game) ≡ false → passesAfterChord B d ≡ d
-  unfolding passesAfterChord
-  chord-over e = rw e
-
-  pub chord-both : isPlaying (d .position .game) ≡ true → modeBoth (d .position .settings .mode) ≡ true → passesAfterChord B d ≡ bothPass B d
-  unfolding passesAfterChord
-  chord-both e b = simp (e, b)
-
-  pub chord-alone : isPlaying (d .position .game) ≡ true → modeBoth (d .position .settings .mode) ≡ false → modeChord (d .position .settings .mode) ≡ true → passesAfterChord B d ≡ chordPass B d .desk
-  unfolding passesAfterChord
-  chord-alone e b m = simp (e, b, m)
-
-  pub chord-none : isPlaying (d .position .game) ≡ true → modeBoth (d .position .settings .mode) ≡ false → modeChord (d .position .settings .mode) ≡ false → passesAfterChord B d ≡ d
-  unfolding passesAfterChord
-  chord-none e b m = simp (e, b, m)
-
--- nothing follows
-pub leaves-none : (d d′ : Desk) (w : List ℕ) → d′ ≡ d → Leaves d d′ w w
-leaves-none d d′ w e = record { outcome = sym e; same = refl }
-
--- a pass follows
-pub leaves-as : (d x y : Desk) (w w′ : List ℕ) → Leaves d x w w′ → y ≡ x → Leaves d y w w′
-leaves-as d x y w w′ l e = record { outcome = l .outcome ∙ sym e; same = l .same }
-
-pub leaves-scan : (B : List ℤ) (p : Position) (shown bits w : List ℕ) (s : Scanned) (shown′ w′ : List ℕ) (y : Desk) → Scans (λ b. chordPass B (desk p shown b)) w s shown′ w′
-    → y ≡ chordPass B (desk p shown bits) .desk → Leaves (desk (s .position) shown′ bits) y w w′
-leaves-scan B p shown bits w s shown′ w′ y c e = record { outcome = ap (λ x. x .desk) (c .outcome bits) ∙ sym e; same = c .same }
 
 -- ---- right -----------------------------------------------------------------------------------------------------------------------------
 

@@ -2,9 +2,9 @@
 use mathlib.Core.Path.{_∙_}
 use native.Mathlib.Omega.{arith}
 use borrow.Author.Needs.{needs}
-use Rattle.passes.proofs.Hand.{chord-asks, chord-dce, chord-then, chord-done}
-use Rattle.passes.proofs.chording_click.Statement.{statement}
-use Rattle.passes.proofs.chording_click.Tie as tie
+use Rattle.hands.proofs.Hand.{chord-asks, chord-dce, chord-then, chord-done}
+use Rattle.hands.proofs.chording_click.Statement.{statement}
+use Rattle.hands.proofs.chording_click.Tie as tie
 
 add-n : tie.Need-add-n
 add-n c = omega (arith, c .before .before .before .before .pre .1 .1 .double)

@@ -1,0 +1,79 @@
+// The right click and the chord by hand, which the passes follow.
+// The contracts cite rules' Passes; specs/ has what the hand adds to.
+ghost use mathlib.Core.Path.{_≡_};
+ghost use Prim.Native.Nat.{_*_, _<_, _≤_};
+ghost use Rattle.rules.specs.Clicks.{desk, done};
+ghost use Rattle.rules.specs.Passes.{rightClick, chordingClick};
+ghost use Rattle.passes.specs.Passing.{Prepared, Leaves};
+ghost use Rattle.hands.specs.Hand.{RightRoom, ChordRoom, counted};
+use rules::Played;
+use rules::Position;
+
+// RIGHT: right + 1; a closed cell is flagged, and the passes follow; a flag or a question mark is taken back.
+pub fn right_click(
+    p: Position,
+    mines: &[i8],
+    shown: &mut [u8],
+    bits: &mut [u8],
+    work: &mut [u16],
+    cell: usize,
+) -> Played
+    requires { ⌜ Prepared (now mines) (desk p (now shown) (now bits)) (now work) ⌝ }
+    requires { ⌜ cell < p .settings .rows * p .settings .columns ⌝ }
+    requires { ⌜ RightRoom p (now shown) cell ⌝ }
+    ensures { λ r. ⌜ Leaves (done (r .answer) (desk (r .position) (now (shown .exit)) (now (bits .exit)))) (rightClick (now (mines .entry)) cell (desk p (now (shown .entry)) (now (bits .entry)))) (now (work .entry)) (now (work .exit)) ⌝ }
+{
+    let n = p.counts.right + 1;
+    let q = p.with_right(n);
+    if shown[cell] == 10 {
+        let f = marking::flag(q, mines, shown, bits, cell);
+        let position = passes::passes_after_flag(f, mines, shown, bits, work);
+        return Played {
+            answer: 1,
+            position,
+        };
+    }
+    marking::take_back(q, shown, cell)
+}
+
+// A chord by hand that opened adds to dce.
+fn add_dce(o: Played) -> Played
+    requires { ⌜ o .position .counts .dce ≤ 70000 ⌝ }
+    ensures { λ r. ⌜ r ≡ counted o ⌝ }
+{
+    if o.answer == 0 {
+        return o;
+    }
+    let p = o.position;
+    let n = p.counts.dce + 1;
+    let position = p.with_dce(n);
+    Played {
+        answer: o.answer,
+        position,
+    }
+}
+
+// CHORD by hand: double + 1, and the passes follow, even where the chord answers 0; its own answer stays.
+pub fn chording_click(
+    p: Position,
+    mines: &[i8],
+    shown: &mut [u8],
+    bits: &mut [u8],
+    work: &mut [u16],
+    cell: usize,
+) -> Played
+    requires { ⌜ Prepared (now mines) (desk p (now shown) (now bits)) (now work) ⌝ }
+    requires { ⌜ cell < p .settings .rows * p .settings .columns ⌝ }
+    requires { ⌜ ChordRoom p ⌝ }
+    ensures { λ r. ⌜ Leaves (done (r .answer) (desk (r .position) (now (shown .exit)) (now (bits .exit)))) (chordingClick (now (mines .entry)) cell (desk p (now (shown .entry)) (now (bits .entry)))) (now (work .entry)) (now (work .exit)) ⌝ }
+{
+    let n = p.counts.double + 1;
+    let q = p.with_double(n);
+    let o = chords::perform_chord(q, mines, shown, work, cell);
+    let c = add_dce(o);
+    let position = passes::passes_after_chord(c.position, mines, shown, bits, work);
+    Played {
+        answer: c.answer,
+        position,
+    }
+}
