@@ -27,7 +27,7 @@ use Rattle.rules.specs.Step.{move, seenAt, leftAt, rightAt, chordFrom, playLc, 
 use Rattle.cells.specs.Ground.{Mined, faceIs}
 use Rattle.cells.proofs.Words.{and-left, and-right}
 use Rattle.cells.proofs.Grid.{cell-lt}
-use Rattle.judging.proofs.Lones.{lone-number}
+use Rattle.lones.proofs.Lones.{lone-number}
 use Rattle.clicks.specs.Room.{LeftRoom}
 use Rattle.clicks.proofs.Ends.{ended-won, ended-open, opened-number}
 use Rattle.clicks.proofs.Steps.{solves-number}

@@ -271,6 +271,13 @@ pub fn wide(x: u8) -> usize
     x as usize
 }
 
+// A cell out of a list or a stack of cells.
+pub fn index(x: u16) -> usize
+    ensures { λ r. ⌜ r ≡ x ⌝ }
+{
+    x as usize
+}
+
 // 1 for yes, 0 for no.
 pub fn one_if(b: bool) -> u32
     ensures { λ r. ⌜ (r ≡ bit b) × (r ≤ 1) ⌝ }

@@ -88,7 +88,7 @@ fn chord_counts(p: Position, mines: &[i8], shown: &[u8], work: &mut [u16], cells
 {
     let rows = p.settings.rows as usize;
     let columns = p.settings.columns as usize;
-    let lone = judging::lone_cells(mines, rows, columns, cells);
+    let lone = lones::lone_cells(mines, rows, columns, cells);
     let judged = judging::op_num_around_cell(mines, shown, work, rows, columns, cells);
     let n = p.secrets.solved_chord + lone as u32 + judged as u32;
     p.with_solved_chord(n)

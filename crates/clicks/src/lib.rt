@@ -96,7 +96,7 @@ fn solves_left(
     if face == 0 {
         return judging::cell_is_op_completed(mines, shown, work, rows, columns, cell);
     }
-    judging::cell_is_bbbv(mines, rows, columns, cell)
+    lones::cell_is_bbbv(mines, rows, columns, cell)
 }
 
 // lce + 1 and solved_left, judged before opening; a mine counts nothing.

@@ -2,7 +2,7 @@
 use mathlib.Core.Path.{_≡_, refl, ap, _∙_}
 use mathlib.Core.Bool.{Bool, true, false, _&&_, not}
 use mathlib.Core.List.{List, [], _∷_}
-use Prim.Native.Nat.{ℕ, zero, suc, _+_, _-_, _*_, _≤_}
+use Prim.Native.Nat.{ℕ, zero, suc, _+_, _*_, _≤_}
 use native.Mathlib.Omega.{arith}
 use borrow.Author.Tests.{eq-eqb, ne-eqb, eqb-true, eqb-false}
 use lib.Dec.{eqb}
@@ -14,6 +14,7 @@ use Rattle.rules.specs.Opening.{turns}
 use Rattle.rules.specs.Judging.{freeAt, Kind, pass, stop, mark, kind, walk, walkFrom, Tally, counted, judgeOne, tally, openingsJudged, lones, total3bv}
 use Rattle.judging.specs.Joining.{among, safeAt}
 use Rattle.cells.proofs.Words.{bit-le}
+use Rattle.lones.proofs.Lones.{lone-zero, lone-mine}
 use Rattle.judging.proofs.Turns.{walk-zero, walk-nil, walk-pass, walk-stop, walk-mark}
 
 -- ---- one cell ------------------------------------------------------------------------------------------------------------------------
@@ -45,22 +46,14 @@ module _ (B : List ℤ) (R C : ℕ) (shown : List ℕ) (i : ℕ) (t : Tally) whe
       go a false e f = rw (judge-number (eqb-false _ _ f)) (omega arith)
 
 module _ (B : List ℤ) (R C i : ℕ) where
-  pub lone-zero : faceAt B i ≡ 0 → loneAt B R C i ≡ false
-  unfolding loneAt
-  lone-zero e = simp e
-
-  pub lone-mine : faceAt B i ≡ 15 → loneAt B R C i ≡ false
-  unfolding loneAt
-  lone-mine e = simp e
-
   -- a cell is an opening's 0, a number or a mine
   pub lone-adds : bit (eqb (faceAt B i) 0) + bit (loneAt B R C i) ≤ bit (safeAt B i)
   lone-adds = go (eqb (faceAt B i) 0) (eqb (faceAt B i) 15) refl refl
     where
       go : (a b : Bool) → eqb (faceAt B i) 0 ≡ a → eqb (faceAt B i) 15 ≡ b → bit a + bit (loneAt B R C i) ≤ bit (not b)
       go true true e f = let d : faceAt B i ≡ 0 = eqb-true _ _ e in let g : faceAt B i ≡ 15 = eqb-true _ _ f in absurd (omega arith)
-      go true false e f = rw (lone-zero (eqb-true _ _ e)) (omega arith)
-      go false true e f = rw (lone-mine (eqb-true _ _ f)) (omega arith)
+      go true false e f = rw (lone-zero B R C i (eqb-true _ _ e)) (omega arith)
+      go false true e f = rw (lone-mine B R C i (eqb-true _ _ f)) (omega arith)
       go false false e f = omega (arith, bit-le (loneAt B R C i))
 
 -- ---- the cells of a stack ------------------------------------------------------------------------------------------------------------
@@ -95,9 +88,6 @@ judged-lones-length B R C shown cells = omega (arith, judged-lones-safe B R C sh
 
 pub judged-length : (B : List ℤ) (R C : ℕ) (shown cells : List ℕ) → openingsJudged B R C shown cells ≤ length cells
 judged-length B R C shown cells = omega (arith, judged-lones-length B R C shown cells)
-
-pub lones-length : (B : List ℤ) (R C : ℕ) (cells : List ℕ) → lones B R C cells ≤ length cells
-lones-length B R C cells = omega (arith, judged-lones-length B R C [] cells)
 
 pub length-below : (n : ℕ) → length (below n) ≡ n
 unfolding below

@@ -7,5 +7,4 @@ pub mod Once
 pub mod Marks
 pub mod Walking
 pub mod Tallying
-pub mod Lones
 pub mod Examples

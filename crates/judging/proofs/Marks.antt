@@ -2,8 +2,7 @@
 use mathlib.Core.Path.{_≡_, refl, sym, _∙_}
 use mathlib.Core.Bool.{Bool, true, false}
 use mathlib.Core.List.{List}
-use Prim.Native.Nat.{ℕ, _+_, _-_, _*_, _/_, _%_, _<_, _≤_}
-use native.Mathlib.Nat.{mod-lt, div-lt-iff-lt-mul}
+use Prim.Native.Nat.{ℕ, _+_, _*_, _/_, _%_, _<_, _≤_}
 use native.Mathlib.Omega.{arith}
 use native.Mathlib.Numerals.{add-one}
 use borrow.Author.Tests.{eq-eqb, ne-eqb, lt-ltb, le-ltb, eqb-true, eqb-false}
@@ -110,14 +109,7 @@ grown-more R C i k w t w′ r w″ r′ q room l low g e h =
       most = omega (arith, h .most, g .most);
     }
 
--- ---- a cell's row and column ---------------------------------------------------------------------------------------------------------
-
-pub row-lt : (R C i : ℕ) → 1 ≤ C → i < R * C → i / C < R
-row-lt R C i c h = div-lt-iff-lt-mul c .1 h
-
-pub column-lt : (C i : ℕ) → 1 ≤ C → i % C < C
-column-lt C i c = mod-lt i c
-
+-- a cell's neighbour, by its row and column
 pub neighbour-of : (R C i k : ℕ) {q : ℕ} → q ≡ cellBefore R C (i / C + ninth k / 3) (i % C + ninth k % 3) → q ≡ neighbour R C i k
 unfolding neighbour
 neighbour-of R C i k e = e

@@ -1,5 +1,5 @@
--- Walks put together: the work is given back, and the walks of a chord or of a whole board share their marks.
-use mathlib.Core.Path.{_≡_, refl, ap, sym, _∙_}
+-- Walks put together: the work is given back, and the walks of a chord or of a whole board share their marks; the total.
+use mathlib.Core.Path.{_≡_, refl, ap, ap₂, sym, _∙_}
 use mathlib.Core.Bool.{Bool, true, false, true≢false}
 use mathlib.Core.List.{List, [], _∷_, _++_}
 use Prim.Native.Nat.{ℕ, _+_, _-_, _*_, _≤_}
@@ -13,11 +13,12 @@ use lib.IntN.{ℤ}
 use Rattle.rules.specs.Words.{bit, stackOf, below}
 use Rattle.rules.specs.Board.{faceAt}
 use Rattle.rules.specs.Lent.{workRoom}
-use Rattle.rules.specs.Judging.{freeAt, walkFrom, judgedLeft, Walked, Tally, counted, judgeOne, tally, openingsJudged}
+use Rattle.rules.specs.Judging.{freeAt, walkFrom, judgedLeft, Walked, Tally, counted, judgeOne, tally, openingsJudged, lones, total3bv}
 use Rattle.cells.specs.Ground.{Zeros}
 use Rattle.cells.proofs.Words.{stack-length}
 use Rattle.judging.specs.declared.Sum.{Sum}
 use Rattle.judging.specs.Parts.{marksOf, Rest, Went, Judged, Tallied, ChordJudged}
+use Rattle.lones.specs.Counts.{LoneRow}
 use Rattle.judging.proofs.Marks.{marks-none}
 use Rattle.judging.proofs.Judging.{judge-marked, judge-number, judge-zero, judged-length, length-below}
 
@@ -126,3 +127,21 @@ pub chord-judged : (B : List ℤ) (R C : ℕ) (shown at : List ℕ) (n : ℕ) (w
     → ChordJudged B R C shown (stackOf at n) (sum .count) w w″
 chord-judged B R C shown at n w w′ sum w″ h t e =
     record { answer = tallied-count B R C shown (stackOf at n) w w′ sum t; few = let f = chord-few B R C shown at n w w′ sum t in omega arith; same = e }
+
+-- ---- the total -----------------------------------------------------------------------------------------------------------------------
+
+module _ (B : List ℤ) (R C : ℕ) where
+  none : lones B R C (below 0) ≡ 0
+  unfolding lones below
+  none = refl
+
+  -- the total from its two counts
+  pub total-is : (w w′ : List ℕ) (sum : Sum) (numbers : ℕ) → Tallied B R C [] (below (R * C)) w w′ sum → LoneRow B R C 0 (R * C) numbers → sum .count + numbers ≡ total3bv B R C
+  unfolding total3bv
+  total-is w w′ sum numbers t l = ap₂ (λ (x y : ℕ). x + y) (tallied-count B R C [] (below (R * C)) w w′ sum t) whole
+    where
+      whole : numbers ≡ lones B R C (below (R * C))
+      whole =
+          let z : 0 + R * C ≡ R * C = omega arith in
+          let a : lones B R C (below 0) + numbers ≡ lones B R C (below (R * C)) = l .answer ∙ ap (λ (n : ℕ). lones B R C (below n)) z in
+          omega (arith, none)

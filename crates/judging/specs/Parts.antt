@@ -5,10 +5,10 @@ use mathlib.Core.List.{List}
 use Prim.Native.Nat.{ℕ, _+_, _*_, _≤_}
 use lib.ListN.{length, getD, set, take, drop}
 use lib.IntN.{ℤ}
-use Rattle.rules.specs.Words.{stackOf, below}
+use Rattle.rules.specs.Words.{stackOf}
 use Rattle.rules.specs.Grid.{pushed}
 use Rattle.rules.specs.Lent.{workRoom}
-use Rattle.rules.specs.Judging.{freeAt, kind, stackBy, marksBy, wholeBy, walkFrom, judgeOne, tally, openingsJudged, lones}
+use Rattle.rules.specs.Judging.{freeAt, kind, stackBy, marksBy, wholeBy, walkFrom, judgeOne, tally, openingsJudged}
 use Rattle.cells.specs.Ground.{Mined}
 use Rattle.judging.specs.declared.Sum.{Sum}
 
@@ -71,13 +71,3 @@ pub record ChordJudged (B : List ℤ) (R C : ℕ) (shown cells : List ℕ) (r : 
   pub answer : r ≡ openingsJudged B R C shown cells
   pub few : r ≤ 8
   pub same : w′ ≡ w
-
--- the lone numbers of a chord's cells, at most eight
-pub record Lone (B : List ℤ) (R C : ℕ) (cells : List ℕ) (r : ℕ) : Type 0 where
-  pub answer : r ≡ lones B R C cells
-  pub few : r ≤ 8
-
--- the lone numbers of n cells, from one on
-pub record LoneRow (B : List ℤ) (R C from n r : ℕ) : Type 0 where
-  pub answer : lones B R C (below from) + r ≡ lones B R C (below (from + n))
-  pub few : r ≤ n

@@ -1,17 +1,16 @@
-// The opening walks of a left click and of a chord, the lone numbers and the 3BV total. Stack and marks stand in the lent work, which comes
-// back as it was. The contracts cite rules' Judging, and specs/Parts for what the inner functions do.
+// The opening walks of a left click and of a chord, and the 3BV total. Stack and marks stand in the lent work, which comes back as it was.
+// The contracts cite rules' Judging, and specs/Parts for what the inner functions do.
 ghost use mathlib.Core.Path.{_≡_};
 ghost use mathlib.Core.Bool.{true, false};
 ghost use Prim.Native.Nat.{_+_, _-_, _*_, _<_, _≤_};
 ghost use lib.Dec.{eqb};
 ghost use lib.ListN.{length, getD, set};
-ghost use Rattle.rules.specs.Words.{bit, stackOf, below};
-ghost use Rattle.rules.specs.Grid.{cellOf, pushIf, pushed};
-ghost use Rattle.rules.specs.Board.{loneAt};
+ghost use Rattle.rules.specs.Words.{stackOf, below};
+ghost use Rattle.rules.specs.Grid.{pushIf, pushed};
 ghost use Rattle.rules.specs.Lent.{workRoom};
 ghost use Rattle.rules.specs.Judging.{freeAt, judgedLeft, total3bv};
 ghost use Rattle.cells.specs.Ground.{Sized, Mined, Fitting, Zeros, Below};
-ghost use Rattle.judging.specs.Parts.{stackRoom, marksOf, Walkable, Grown, Stepped, Went, Judged, Tallied, Lent, ChordJudged, Lone, LoneRow};
+ghost use Rattle.judging.specs.Parts.{stackRoom, marksOf, Walkable, Grown, Stepped, Went, Judged, Tallied, Lent, ChordJudged};
 
 // The cell q is on the board and has no mark.
 fn free(work: &[u16], size: usize, q: usize) -> bool
@@ -211,12 +210,6 @@ fn judge_one(
     }
 }
 
-fn wide(x: u16) -> usize
-    ensures { λ r. ⌜ r ≡ x ⌝ }
-{
-    x as usize
-}
-
 // The walks from a chord's cells, with one set of marks.
 fn judge_cells(
     mines: &[i8],
@@ -238,7 +231,7 @@ fn judge_cells(
         walked: false,
     };
     for i in 0..n {
-        let q = wide(at[i]);
+        let q = cells::index(at[i]);
         sum = judge_one(mines, shown, work, rows, columns, q, sum);
     }
     sum
@@ -284,88 +277,6 @@ fn judge_board(mines: &[i8], shown: &[u8], work: &mut [u16], rows: usize, column
     sum
 }
 
-// A number without a 0 neighbour, by its row and column.
-fn lone_at(mines: &[i8], rows: usize, columns: usize, row: usize, column: usize) -> bool
-    requires { ⌜ Mined (now mines) rows columns ⌝ }
-    requires { ⌜ (row < rows) × (column < columns) ⌝ }
-    ensures { λ r. ⌜ r ≡ loneAt (now (mines .entry)) rows columns (cellOf columns row column) ⌝ }
-{
-    let v = cells::face_at(mines, row * columns + column);
-    if v == 0 {
-        return false;
-    }
-    if v == 15 {
-        return false;
-    }
-    let zeros = cells::faces_around(mines, rows, columns, row, column, 0);
-    if zeros == 0 {
-        return true;
-    }
-    false
-}
-
-// A number without a 0 neighbour.
-pub fn cell_is_bbbv(mines: &[i8], rows: usize, columns: usize, cell: usize) -> bool
-    requires { ⌜ Mined (now mines) rows columns ⌝ }
-    requires { ⌜ cell < rows * columns ⌝ }
-    ensures { λ r. ⌜ r ≡ loneAt (now (mines .entry)) rows columns cell ⌝ }
-{
-    lone_at(mines, rows, columns, cell / columns, cell % columns)
-}
-
-fn one(b: bool) -> usize
-    ensures { λ r. ⌜ r ≡ bit b ⌝ }
-{
-    if b {
-        return 1;
-    }
-    0
-}
-
-// The numbers without a 0 neighbour among a chord's cells.
-pub fn lone_cells(mines: &[i8], rows: usize, columns: usize, cells: rules::Cells) -> usize
-    requires { ⌜ Mined (now mines) rows columns ⌝ }
-    requires { ⌜ cells .n ≤ 8 ⌝ }
-    requires { ⌜ Below (rows * columns) (stackOf (cells .at) (cells .n)) ⌝ }
-    ensures { λ r. ⌜ Lone (now (mines .entry)) rows columns (stackOf (cells .at) (cells .n)) r ⌝ }
-{
-    let at = cells.at;
-    let n = cells.n;
-    let mut sum = 0;
-    for i in 0..n {
-        let q = wide(at[i]);
-        let lone = cell_is_bbbv(mines, rows, columns, q);
-        sum += one(lone);
-    }
-    sum
-}
-
-// The numbers of a row without a 0 neighbour.
-fn lone_row(mines: &[i8], rows: usize, columns: usize, row: usize) -> usize
-    requires { ⌜ Mined (now mines) rows columns ⌝ }
-    requires { ⌜ row < rows ⌝ }
-    ensures { λ r. ⌜ LoneRow (now (mines .entry)) rows columns (row * columns) columns r ⌝ }
-{
-    let mut sum = 0;
-    for column in 0..columns {
-        let lone = lone_at(mines, rows, columns, row, column);
-        sum += one(lone);
-    }
-    sum
-}
-
-// The numbers of the board without a 0 neighbour.
-fn lone_board(mines: &[i8], rows: usize, columns: usize) -> usize
-    requires { ⌜ Mined (now mines) rows columns ⌝ }
-    ensures { λ r. ⌜ LoneRow (now (mines .entry)) rows columns 0 (rows * columns) r ⌝ }
-{
-    let mut sum = 0;
-    for row in 0..rows {
-        sum += lone_row(mines, rows, columns, row);
-    }
-    sum
-}
-
 // 3BV total: openings plus numbers without a 0 neighbour.
 pub fn total_3bv(mines: &[i8], work: &mut [u16], rows: usize, columns: usize) -> usize
     requires { ⌜ Mined (now mines) rows columns ⌝ }
@@ -376,6 +287,6 @@ pub fn total_3bv(mines: &[i8], work: &mut [u16], rows: usize, columns: usize) ->
     let none = [0u8; 0];
     let openings = judge_board(mines, &none, work, rows, columns);
     cells::clear(work, 8 * (rows * columns) + 8);
-    let numbers = lone_board(mines, rows, columns);
+    let numbers = lones::lone_board(mines, rows, columns);
     openings.count + numbers
 }

@@ -19,20 +19,20 @@ abbrev μ-loop : tie.MeasureT-loop
 loop-holds : tie.Need-loop-holds Inv-loop μ-loop
 loop-holds c = (omega arith, chord-none _ _ _ _ _ _ (c .before .before .pre .0 .room) (c .before .before .pre .1 .0))
 
-mul-wide : tie.Need-mul-wide Inv-loop μ-loop
-mul-wide c = omega arith
+mul-index : tie.Need-mul-index Inv-loop μ-loop
+mul-index c = omega arith
 
-array-read-wide : tie.Need-array-read-wide Inv-loop μ-loop
-array-read-wide c = omega arith
+array-read-index : tie.Need-array-read-index Inv-loop μ-loop
+array-read-index c = omega arith
 
-wide-requires : tie.Need-wide-requires Inv-loop μ-loop
-wide-requires c κs = search needs
+index-requires : tie.Need-index-requires Inv-loop μ-loop
+index-requires c κs = search needs
 
 judge-one-requires : tie.Need-judge-one-requires Inv-loop μ-loop
 judge-one-requires c κs = let l = (c .before .before .before .loop) in (
   record { mined = c .before .before .before .before .before .before .pre .0 .mined; room = rw (l .inv .1 .long) (c .before .before .before .before .before .before .pre .0 .room) },
   (
-    rw (c .before .wide .ensures) (stack-below _ _ _ (c .before .before .before .before .before .before .pre .1 .1 .1) (l .i) (c .before .before .loop-test .taken)),
+    rw (c .before .index .ensures) (stack-below _ _ _ (c .before .before .before .before .before .before .pre .1 .1 .1) (l .i) (c .before .before .loop-test .taken)),
     let f : l .sum .count ≤ l .i = chord-few _ _ _ _ _ _ _ _ _ (l .inv .1) in omega arith,
   ),
 )
@@ -44,7 +44,7 @@ loop-less : tie.Need-loop-less Inv-loop μ-loop
 loop-less c = omega arith
 
 loop-again : tie.Need-loop-again Inv-loop μ-loop
-loop-again c = let l = (c .before .before .before .before .before .before .loop) in (omega arith, chord-more _ _ _ _ _ _ _ _ _ _ _ _ (c .before .before .before .before .wide .ensures) (l .inv .1) (c .before .before .judge-one .ensures) (c .before .before .judge-one .kept .1 .1 .0))
+loop-again c = let l = (c .before .before .before .before .before .before .loop) in (omega arith, chord-more _ _ _ _ _ _ _ _ _ _ _ _ (c .before .before .before .before .index .ensures) (l .inv .1) (c .before .before .judge-one .ensures) (c .before .before .judge-one .kept .1 .1 .0))
 
 same-length : tie.Need-same-length Inv-loop μ-loop
 same-length c = c .before .loop .inv .1 .long
@@ -59,9 +59,9 @@ judge-cells-spec =
     Inv-loop
     μ-loop
     loop-holds
-    mul-wide
-    array-read-wide
-    wide-requires
+    mul-index
+    array-read-index
+    index-requires
     judge-one-requires
     add-i
     loop-less

@@ -7,9 +7,9 @@ use lib.ListN.{length}
 use Rattle.rules.specs.Words.{stackOf}
 use Rattle.rules.specs.Grid.{pushed}
 use Rattle.rules.specs.Judging.{freeAt}
-use Rattle.cells.proofs.Grid.{cellBefore-le}
+use Rattle.cells.proofs.Grid.{cellBefore-le, on-grid}
 use Rattle.judging.specs.Parts.{marksOf, Grown}
-use Rattle.judging.proofs.Marks.{grown-start, grown-more, row-lt, column-lt, neighbour-of}
+use Rattle.judging.proofs.Marks.{grown-start, grown-more, neighbour-of}
 use Rattle.judging.proofs.push_around.Statement.{statement}
 use Rattle.judging.proofs.push_around.Tie as tie
 
@@ -32,7 +32,7 @@ loop-holds : tie.Need-loop-holds Inv-loop μ-loop
 loop-holds c = (omega arith, grown-start _ _ _ _ _ _, refl)
 
 neighbour-at-requires : tie.Need-neighbour-at-requires Inv-loop μ-loop
-neighbour-at-requires c κs = let a = (c .before .before .before .args) in (c .before .before .before .pre .0, ((row-lt (a .rows) (a .columns) (a .cell) (c .before .before .before .pre .0 .column) (c .before .before .before .pre .1 .0), column-lt (a .columns) (a .cell) (c .before .before .before .pre .0 .column)), omega arith))
+neighbour-at-requires c κs = let a = (c .before .before .before .args) in (c .before .before .before .pre .0, (on-grid (a .rows) (a .columns) (a .cell) (c .before .before .before .pre .0 .column) (c .before .before .before .pre .1 .0), omega arith))
 
 push-free-requires : tie.Need-push-free-requires Inv-loop μ-loop
 push-free-requires c κs = let a = (c .before .before .before .before .before .args) in

@@ -1,7 +1,6 @@
 -- `judging::total_3bv`: both counts added up, the work cleared in between.
 use native.Mathlib.Omega.{arith}
-use Rattle.judging.proofs.Tallying.{cleared, board-few}
-use Rattle.judging.proofs.Lones.{total-is}
+use Rattle.judging.proofs.Tallying.{cleared, board-few, total-is}
 use borrow.Author.Needs.{needs}
 use Rattle.judging.proofs.total_3bv.Statement.{statement}
 use Rattle.judging.proofs.total_3bv.Tie as tie

@@ -1,7 +1,7 @@
 -- `judging::walk`: the invariant is Walking; the measure, the stack's height and eight for each cell without a mark, falls each turn.
 use lib.ListN.{length-set}
 use mathlib.Core.Path.{_∙_}
-use Prim.Native.Nat.{_+_, _-_, _*_}
+use Prim.Native.Nat.{_+_, _*_}
 use native.Mathlib.Omega.{arith}
 use Rattle.judging.specs.Parts.{marksOf}
 use Rattle.judging.proofs.Turns.{freeCount}

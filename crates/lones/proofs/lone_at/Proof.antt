@@ -1,12 +1,12 @@
--- `judging::lone_at`: a 0 and a mine are none; a number is one exactly if it has no 0 neighbour.
+-- `lones::lone_at`: a 0 and a mine are none; a number is one exactly if it has no 0 neighbour.
 use mathlib.Core.Bool.{true, false}
 use native.Mathlib.Omega.{arith}
 use borrow.Author.Tests.{eq-eqb, ne-eqb}
 use Rattle.cells.proofs.Grid.{cell-lt}
-use Rattle.judging.proofs.Lones.{lone-no-zero, lone-no-mine, lone-number}
+use Rattle.lones.proofs.Lones.{lone-no-zero, lone-no-mine, lone-number}
 use borrow.Author.Needs.{needs}
-use Rattle.judging.proofs.lone_at.Statement.{statement}
-use Rattle.judging.proofs.lone_at.Tie as tie
+use Rattle.lones.proofs.lone_at.Statement.{statement}
+use Rattle.lones.proofs.lone_at.Tie as tie
 
 mul-face-at : tie.Need-mul-face-at
 mul-face-at c = let a = (c .args) in omega (arith, cell-lt (a .rows) (a .columns) (a .row) (a .column) (c .pre .1 .0) (c .pre .1 .1), c .pre .0 .sized .cells)

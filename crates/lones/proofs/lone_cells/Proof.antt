@@ -1,4 +1,4 @@
--- `judging::lone_cells`: the invariant is the lone numbers of the first i cells.
+-- `lones::lone_cells`: the invariant is the lone numbers of the first i cells.
 use borrow.Author.Needs.{needs}
 use mathlib.Core.Path.{_≡_}
 use Prim.Native.Nat.{_≤_, _-_}
@@ -6,9 +6,9 @@ use native.Mathlib.Omega.{arith}
 use Rattle.rules.specs.Words.{stackOf}
 use Rattle.rules.specs.Judging.{lones}
 use Rattle.cells.proofs.Words.{stack-below}
-use Rattle.judging.proofs.Lones.{cells-none, cells-more, cells-few, cells-done}
-use Rattle.judging.proofs.lone_cells.Statement.{statement}
-use Rattle.judging.proofs.lone_cells.Tie as tie
+use Rattle.lones.proofs.Lones.{cells-none, cells-more, cells-few, cells-done}
+use Rattle.lones.proofs.lone_cells.Statement.{statement}
+use Rattle.lones.proofs.lone_cells.Tie as tie
 
 abbrev Inv-loop : tie.InvT-loop
 Inv-loop mines rows columns at n sum₀ i₀ sum i = (i ≤ n) × (sum ≡ lones mines rows columns (stackOf at i))
@@ -19,23 +19,23 @@ abbrev μ-loop : tie.MeasureT-loop
 loop-holds : tie.Need-loop-holds Inv-loop μ-loop
 loop-holds c = (omega arith, cells-none _ _ _ _)
 
-mul-wide : tie.Need-mul-wide Inv-loop μ-loop
-mul-wide c = omega arith
+mul-index : tie.Need-mul-index Inv-loop μ-loop
+mul-index c = omega arith
 
-array-read-wide : tie.Need-array-read-wide Inv-loop μ-loop
-array-read-wide c = omega arith
+array-read-index : tie.Need-array-read-index Inv-loop μ-loop
+array-read-index c = omega arith
 
-wide-requires : tie.Need-wide-requires Inv-loop μ-loop
-wide-requires c κs = search needs
+index-requires : tie.Need-index-requires Inv-loop μ-loop
+index-requires c κs = search needs
 
 cell-is-bbbv-requires : tie.Need-cell-is-bbbv-requires Inv-loop μ-loop
-cell-is-bbbv-requires c κs = (c .before .before .before .before .pre .0, rw (c .wide .ensures) (stack-below _ _ _ (c .before .before .before .before .pre .1 .1) (c .before .before .loop .i) (c .before .loop-test .taken)))
+cell-is-bbbv-requires c κs = (c .before .before .before .before .pre .0, rw (c .index .ensures) (stack-below _ _ _ (c .before .before .before .before .pre .1 .1) (c .before .before .loop .i) (c .before .loop-test .taken)))
 
 one-requires : tie.Need-one-requires Inv-loop μ-loop
 one-requires c κs = search needs
 
 add-sum : tie.Need-add-sum Inv-loop μ-loop
-add-sum c = let b = cells-few _ _ _ _ _ (cells-more _ _ _ _ _ _ _ _ _ (c .before .before .before .before .loop .inv .1) (c .before .before .wide .ensures) (c .before .cell-is-bbbv .ensures) (c .one .ensures)) in omega (arith, b)
+add-sum c = let b = cells-few _ _ _ _ _ (cells-more _ _ _ _ _ _ _ _ _ (c .before .before .before .before .loop .inv .1) (c .before .before .index .ensures) (c .before .cell-is-bbbv .ensures) (c .one .ensures)) in omega (arith, b)
 
 add-i : tie.Need-add-i Inv-loop μ-loop
 add-i c = omega arith
@@ -44,7 +44,7 @@ loop-less : tie.Need-loop-less Inv-loop μ-loop
 loop-less c = omega arith
 
 loop-again : tie.Need-loop-again Inv-loop μ-loop
-loop-again c = (omega arith, cells-more _ _ _ _ _ _ _ _ _ (c .before .before .before .before .loop .inv .1) (c .before .before .wide .ensures) (c .before .cell-is-bbbv .ensures) (c .one .ensures))
+loop-again c = (omega arith, cells-more _ _ _ _ _ _ _ _ _ (c .before .before .before .before .loop .inv .1) (c .before .before .index .ensures) (c .before .cell-is-bbbv .ensures) (c .one .ensures))
 
 returns : tie.Need-returns Inv-loop μ-loop
 returns c = let e : c .before .loop .i ≡ c .before .before .before .args .cells .n = omega arith in cells-done _ _ _ _ _ _ (c .before .before .before .pre .1 .0) (rw e at (c .before .loop .inv .1))
@@ -56,9 +56,9 @@ lone-cells-spec =
     Inv-loop
     μ-loop
     loop-holds
-    mul-wide
-    array-read-wide
-    wide-requires
+    mul-index
+    array-read-index
+    index-requires
     cell-is-bbbv-requires
     one-requires
     add-sum

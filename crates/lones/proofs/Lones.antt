@@ -1,36 +1,41 @@
 -- Lone numbers: the ways through the code, and their counts over a chord's cells, a row and the board.
 use mathlib.Core.Path.{_≡_, refl, ap, ap₂, sym, _∙_}
 use mathlib.Core.Bool.{Bool, false}
-use mathlib.Core.List.{List, []}
+use mathlib.Core.List.{List, [], _∷_}
 use Prim.Native.Nat.{ℕ, _+_, _*_, _/_, _%_, _<_, _≤_}
 use native.Mathlib.Nat.{suc-mul, mul-le-mul-right}
 use native.Mathlib.Omega.{arith}
 use native.Mathlib.Numerals.{add-one}
 use borrow.Author.Tests.{le-leb}
 use lib.Dec.{eqb}
-use lib.ListN.{getD}
+use lib.ListN.{length, getD}
 use lib.IntN.{ℤ, pos}
 use Rattle.rules.specs.Words.{bit, stackOf, below}
 use Rattle.rules.specs.Grid.{cellOf, around}
 use Rattle.rules.specs.Board.{faceAt, zeroAt, loneAt}
-use Rattle.rules.specs.Judging.{lones, total3bv}
+use Rattle.rules.specs.Judging.{lones}
 use Rattle.cells.specs.Ground.{Mined, faceIs}
 use Rattle.cells.proofs.Words.{bit-le, stack-length}
 use Rattle.cells.proofs.Grid.{cell-back}
 use Rattle.cells.proofs.Face.{face-safe}
-use Rattle.judging.specs.declared.Sum.{Sum}
-use Rattle.judging.specs.Parts.{Tallied, Lone, LoneRow}
-use Rattle.judging.proofs.Judging.{lone-zero, lone-mine, lones-length}
-use Rattle.judging.proofs.Tallying.{tallied-count}
+use Rattle.lones.specs.Counts.{Lone, LoneRow}
 
 -- ---- one cell ------------------------------------------------------------------------------------------------------------------------
 
 module _ (B : List ℤ) (R C i : ℕ) where
+  pub lone-zero : faceAt B i ≡ 0 → loneAt B R C i ≡ false
+  unfolding loneAt
+  lone-zero e = simp e
+
+  pub lone-mine : faceAt B i ≡ 15 → loneAt B R C i ≡ false
+  unfolding loneAt
+  lone-mine e = simp e
+
   pub lone-no-zero : (v : ℕ) → v ≡ faceAt B i → v ≡ 0 → false ≡ loneAt B R C i
-  lone-no-zero v f z = sym (lone-zero B R C i (sym f ∙ z))
+  lone-no-zero v f z = sym (lone-zero (sym f ∙ z))
 
   pub lone-no-mine : (v : ℕ) → v ≡ faceAt B i → v ≡ 15 → false ≡ loneAt B R C i
-  lone-no-mine v f z = sym (lone-mine B R C i (sym f ∙ z))
+  lone-no-mine v f z = sym (lone-mine (sym f ∙ z))
 
   -- a number: its 0 neighbours decide
   pub lone-number : Mined B R C → i < R * C → (v : ℕ) → v ≡ faceAt B i → (v ≡ 0 → ⊥) → (v ≡ 15 → ⊥) → (n : ℕ) → n ≡ around R C (faceIs B 0) i → (b : Bool) → eqb n 0 ≡ b → b ≡ loneAt B R C i
@@ -47,6 +52,11 @@ lone-cell B R C i e = e ∙ ap (loneAt B R C) (cell-back C i)
 -- ---- a chord's cells -----------------------------------------------------------------------------------------------------------------
 
 module _ (B : List ℤ) (R C : ℕ) where
+  lones-length : (cells : List ℕ) → lones B R C cells ≤ length cells
+  unfolding lones
+  lones-length [] = omega arith
+  lones-length (i ∷ st) = omega (arith, lones-length st, bit-le (loneAt B R C i))
+
   pub cells-none : (at : List ℕ) → 0 ≡ lones B R C (stackOf at 0)
   unfolding lones stackOf
   cells-none at = refl
@@ -56,7 +66,7 @@ module _ (B : List ℤ) (R C : ℕ) where
   cells-more at k sum q b n e d h o = rw add-one (ap₂ (λ (x y : ℕ). x + y) e (o ∙ ap bit (h ∙ ap (loneAt B R C) d)))
 
   pub cells-few : (at : List ℕ) (k : ℕ) {sum : ℕ} → sum ≡ lones B R C (stackOf at k) → sum ≤ k
-  cells-few at k e = rw e (let a = lones-length B R C (stackOf at k) in let b = stack-length at k in omega arith)
+  cells-few at k e = rw e (let a = lones-length (stackOf at k) in let b = stack-length at k in omega arith)
 
   pub cells-done : (at : List ℕ) (n sum : ℕ) → n ≤ 8 → sum ≡ lones B R C (stackOf at n) → Lone B R C (stackOf at n) sum
   cells-done at n sum h e = record { answer = e; few = let b = cells-few at n e in omega arith }
@@ -97,18 +107,3 @@ module _ (B : List ℤ) (R C : ℕ) where
 
   pub board-none : LoneRow B R C 0 (0 * C) 0
   board-none = let e : 0 * C ≡ 0 = omega arith in rw e (row-none 0)
-
-  none : lones B R C (below 0) ≡ 0
-  unfolding lones below
-  none = refl
-
-  -- the total from its two counts
-  pub total-is : (w w′ : List ℕ) (sum : Sum) (numbers : ℕ) → Tallied B R C [] (below (R * C)) w w′ sum → LoneRow B R C 0 (R * C) numbers → sum .count + numbers ≡ total3bv B R C
-  unfolding total3bv
-  total-is w w′ sum numbers t l = ap₂ (λ (x y : ℕ). x + y) (tallied-count B R C [] (below (R * C)) w w′ sum t) whole
-    where
-      whole : numbers ≡ lones B R C (below (R * C))
-      whole =
-          let z : 0 + R * C ≡ R * C = omega arith in
-          let a : lones B R C (below 0) + numbers ≡ lones B R C (below (R * C)) = l .answer ∙ ap (λ (n : ℕ). lones B R C (below n)) z in
-          omega (arith, none)

@@ -1,11 +1,11 @@
--- `judging::lone_board`: the invariant is the lone numbers of the rows before the row.
+-- `lones::lone_board`: the invariant is the lone numbers of the rows before the row.
 use mathlib.Core.Path.{_≡_}
 use Prim.Native.Nat.{_+_, _≤_, _-_, _*_}
 use native.Mathlib.Omega.{arith}
-use Rattle.judging.specs.Parts.{LoneRow}
-use Rattle.judging.proofs.Lones.{board-none, board-more, board-few}
-use Rattle.judging.proofs.lone_board.Statement.{statement}
-use Rattle.judging.proofs.lone_board.Tie as tie
+use Rattle.lones.specs.Counts.{LoneRow}
+use Rattle.lones.proofs.Lones.{board-none, board-more, board-few}
+use Rattle.lones.proofs.lone_board.Statement.{statement}
+use Rattle.lones.proofs.lone_board.Tie as tie
 
 abbrev Inv-loop : tie.InvT-loop
 Inv-loop mines rows columns sum₀ row₀ sum row = (row ≤ rows) × LoneRow mines rows columns 0 (row * columns) sum

@@ -1,12 +1,12 @@
--- `judging::lone_row`: the invariant is the lone numbers of the row before the column.
+-- `lones::lone_row`: the invariant is the lone numbers of the row before the column.
 use borrow.Author.Needs.{needs}
 use mathlib.Core.Path.{_≡_}
 use Prim.Native.Nat.{_≤_, _-_, _*_}
 use native.Mathlib.Omega.{arith}
-use Rattle.judging.specs.Parts.{LoneRow}
-use Rattle.judging.proofs.Lones.{row-none, row-more}
-use Rattle.judging.proofs.lone_row.Statement.{statement}
-use Rattle.judging.proofs.lone_row.Tie as tie
+use Rattle.lones.specs.Counts.{LoneRow}
+use Rattle.lones.proofs.Lones.{row-none, row-more}
+use Rattle.lones.proofs.lone_row.Statement.{statement}
+use Rattle.lones.proofs.lone_row.Tie as tie
 
 abbrev Inv-loop : tie.InvT-loop
 Inv-loop mines rows columns row sum₀ column₀ sum column = (column ≤ columns) × LoneRow mines rows columns (row * columns) column sum

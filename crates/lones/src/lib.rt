@@ -1,0 +1,91 @@
+// The numbers without a 0 neighbour, lone numbers for short: one cell, a chord's cells, a row, the whole board.
+// The contracts cite rules/specs/Board.antt and Judging.antt; specs/Counts.antt has what the counts ensure.
+ghost use mathlib.Core.Path.{_≡_};
+ghost use Prim.Native.Nat.{_*_, _<_, _≤_};
+ghost use Rattle.rules.specs.Words.{bit, stackOf};
+ghost use Rattle.rules.specs.Grid.{cellOf};
+ghost use Rattle.rules.specs.Board.{loneAt};
+ghost use Rattle.cells.specs.Ground.{Mined, Below};
+ghost use Rattle.lones.specs.Counts.{Lone, LoneRow};
+
+// A number without a 0 neighbour, by its row and column.
+fn lone_at(mines: &[i8], rows: usize, columns: usize, row: usize, column: usize) -> bool
+    requires { ⌜ Mined (now mines) rows columns ⌝ }
+    requires { ⌜ (row < rows) × (column < columns) ⌝ }
+    ensures { λ r. ⌜ r ≡ loneAt (now (mines .entry)) rows columns (cellOf columns row column) ⌝ }
+{
+    let v = cells::face_at(mines, row * columns + column);
+    if v == 0 {
+        return false;
+    }
+    if v == 15 {
+        return false;
+    }
+    let zeros = cells::faces_around(mines, rows, columns, row, column, 0);
+    if zeros == 0 {
+        return true;
+    }
+    false
+}
+
+// A number without a 0 neighbour.
+pub fn cell_is_bbbv(mines: &[i8], rows: usize, columns: usize, cell: usize) -> bool
+    requires { ⌜ Mined (now mines) rows columns ⌝ }
+    requires { ⌜ cell < rows * columns ⌝ }
+    ensures { λ r. ⌜ r ≡ loneAt (now (mines .entry)) rows columns cell ⌝ }
+{
+    lone_at(mines, rows, columns, cell / columns, cell % columns)
+}
+
+fn one(b: bool) -> usize
+    ensures { λ r. ⌜ r ≡ bit b ⌝ }
+{
+    if b {
+        return 1;
+    }
+    0
+}
+
+// The numbers without a 0 neighbour among a chord's cells.
+pub fn lone_cells(mines: &[i8], rows: usize, columns: usize, cells: rules::Cells) -> usize
+    requires { ⌜ Mined (now mines) rows columns ⌝ }
+    requires { ⌜ cells .n ≤ 8 ⌝ }
+    requires { ⌜ Below (rows * columns) (stackOf (cells .at) (cells .n)) ⌝ }
+    ensures { λ r. ⌜ Lone (now (mines .entry)) rows columns (stackOf (cells .at) (cells .n)) r ⌝ }
+{
+    let at = cells.at;
+    let n = cells.n;
+    let mut sum = 0;
+    for i in 0..n {
+        let q = cells::index(at[i]);
+        let lone = cell_is_bbbv(mines, rows, columns, q);
+        sum += one(lone);
+    }
+    sum
+}
+
+// The numbers of a row without a 0 neighbour.
+fn lone_row(mines: &[i8], rows: usize, columns: usize, row: usize) -> usize
+    requires { ⌜ Mined (now mines) rows columns ⌝ }
+    requires { ⌜ row < rows ⌝ }
+    ensures { λ r. ⌜ LoneRow (now (mines .entry)) rows columns (row * columns) columns r ⌝ }
+{
+    let mut sum = 0;
+    for column in 0..columns {
+        let lone = lone_at(mines, rows, columns, row, column);
+        sum += one(lone);
+    }
+    sum
+}
+
+// The numbers of the board without a 0 neighbour.
+pub fn lone_board(mines: &[i8], rows: usize, columns: usize) -> usize
+    requires { ⌜ Mined (now mines) rows columns ⌝ }
+    ensures { λ r. ⌜ LoneRow (now (mines .entry)) rows columns 0 (rows * columns) r ⌝ }
+{
+    let mut sum = 0;
+    for row in 0..rows {
+        sum += lone_row(mines, rows, columns, row);
+    }
+    sum
+}
