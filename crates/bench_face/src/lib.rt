@@ -7,7 +7,7 @@ ghost use lib.ListN.{length};
 ghost use Rattle.rules.specs.Printout.{printoutOf};
 ghost use Rattle.opening.specs.Parts.{Refreshed};
 ghost use Rattle.writing.specs.Put.{PutWithin};
-ghost use Rattle.player.specs.Printing.{Enough};
+ghost use Rattle.player.specs.Rooms.{Enough};
 use rules::Answer;
 use rules::Position;
 use rules::Settings;

@@ -24,7 +24,7 @@ use Rattle.writing.proofs.Putting.{put-as}
 use Rattle.text.specs.Texts.{refusedText}
 use Rattle.text.proofs.Printed.{printout-refused}
 use Rattle.printing.specs.Boards.{Fit}
-use Rattle.player.specs.Printing.{Enough}
+use Rattle.player.specs.Rooms.{Enough}
 
 -- ---- the place of a refusal ------------------------------------------------------------------------------------------------------------
 

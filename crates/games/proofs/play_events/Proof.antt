@@ -1,4 +1,4 @@
--- `player::play_events` meets its contract. The invariant: what was played and written leads, with the events left, to the whole row and its lines.
+-- `games::play_events` meets its contract. The invariant: what was played and written leads, with the events left, to the whole row and its lines.
 -- The measure is the bytes left.
 use mathlib.Core.Path.{refl, ap, _∙_}
 use Prim.Native.Nat.{_-_}
@@ -6,9 +6,9 @@ use native.Mathlib.Omega.{arith}
 use lib.ListN.{length}
 use Rattle.game.proofs.Flows.{blank-kept}
 use Rattle.writing.proofs.Putting.{put-length}
-use Rattle.player.proofs.Telling.{Telling, unplayed, telling-start, telling-left, telling-room, telling-number, telling-on, telling-end, telling-refused, telling-cells, telling-bytes}
-use Rattle.player.proofs.play_events.Statement.{statement}
-use Rattle.player.proofs.play_events.Tie as tie
+use Rattle.games.proofs.Telling.{Telling, unplayed, telling-start, telling-left, telling-room, telling-number, telling-on, telling-end, telling-refused, telling-cells, telling-bytes}
+use Rattle.games.proofs.play_events.Statement.{statement}
+use Rattle.games.proofs.play_events.Tie as tie
 
 abbrev Inv-loop : tie.InvT-loop
 Inv-loop events mines shown₀ bits₀ work₀ out₀ at k₀ number₀ place₀ o₀ shown bits work out k number place o = Telling mines events at k₀ o₀ shown₀ bits₀ work₀ out₀ k number place o shown bits work out

@@ -26,9 +26,9 @@ use Rattle.writing.specs.Put.{Put, PutWithin}
 use Rattle.writing.proofs.Putting.{put-then, put-as, put-length}
 use Rattle.text.specs.Rows.{RowsFit}
 use Rattle.text.proofs.Printed.{printout-played}
-use Rattle.player.specs.declared.Told.{Told}
+use Rattle.games.specs.declared.Told.{Told}
 use Rattle.printing.specs.Boards.{Begun}
-use Rattle.player.specs.Printing.{EventsFit, EventsPrinted}
+use Rattle.games.specs.Events.{EventsFit, EventsPrinted}
 use Rattle.cells.proofs.Filling.{cleared-zeros}
 use Rattle.printing.proofs.Beginning.{book-lawful}
 

@@ -1,4 +1,4 @@
--- What the parts of a printout require of what is lent, and what they ensure.
+-- What a row of events, played and printed, requires of what is lent, and what it ensures.
 use mathlib.Core.Path.{_≡_}
 use mathlib.Core.List.{List}
 use Prim.Native.Nat.{ℕ, _+_, _*_, _%_, _≤_}
@@ -10,7 +10,7 @@ use Rattle.rules.specs.Calls.{plays}
 use Rattle.rules.specs.Printout.{eventLines}
 use Rattle.game.specs.Core.{flowOn}
 use Rattle.writing.specs.Put.{Put}
-use Rattle.player.specs.declared.Told.{Told}
+use Rattle.games.specs.declared.Told.{Told}
 
 -- whole events, no more than a book may have, and room for a line of 20 bytes for each
 pub record EventsFit (events : List ℕ) (at : ℕ) (out : List ℕ) : Type 0 where
@@ -24,11 +24,3 @@ pub record EventsPrinted (B : List ℤ) (events : List ℕ) (p : Position) (show
   pub put : Put (eventLines 1 (plays B events (desk p shown bits))) at out out′ (r .at)
   pub short : 3 * r .at ≤ 3 * at + 20 * length events
   pub same : work′ ≡ work
-
--- enough for every book: 2,048 cells, and a printout's room
-pub record Enough (mines : List ℤ) (shown bits work out : List ℕ) : Type 0 where
-  pub mine : 2048 ≤ length mines
-  pub cell : 2048 ≤ length shown
-  pub byte : 256 ≤ length bits
-  pub room : 16392 ≤ length work
-  pub text : 172184 ≤ length out

@@ -1,10 +1,10 @@
--- `player::print_game` meets its contract: each part finds what the one before it left, and the three texts make the printout.
+-- `games::print_game` meets its contract: each part finds what the one before it left, and the three texts make the printout.
 use mathlib.Core.Path.{_∙_}
 use native.Mathlib.Omega.{arith}
 use borrow.Author.Needs.{needs}
-use Rattle.player.proofs.Games.{game-lawful, game-blank, game-events, game-ends, game-printed}
-use Rattle.player.proofs.print_game.Statement.{statement}
-use Rattle.player.proofs.print_game.Tie as tie
+use Rattle.games.proofs.Games.{game-lawful, game-blank, game-events, game-ends, game-printed}
+use Rattle.games.proofs.print_game.Statement.{statement}
+use Rattle.games.proofs.print_game.Tie as tie
 
 begin-requires : tie.Need-begin-requires
 begin-requires c κs = search needs

@@ -20,7 +20,7 @@ use Rattle.buttons.specs.Able.{Plays}
 use Rattle.game.proofs.Flows.{Flowing, held, three, eventAt, flow-on, flow-refused, flow-cells, flow-bytes, flow-start, flow-end, event-left}
 use Rattle.writing.specs.Put.{PutWithin}
 use Rattle.writing.proofs.Putting.{Leads, leads-start, leads-turn, leads-done}
-use Rattle.player.specs.Printing.{EventsFit, EventsPrinted}
+use Rattle.games.specs.Events.{EventsFit, EventsPrinted}
 
 -- the lines of the events from a place on
 abbrev pub linesFrom : List ℤ → List ℕ → ℕ → ℕ → Desk → List ℕ
