@@ -95,7 +95,7 @@ pub extern "C" fn bench_flow(
     a.number
 }
 
-// The same, and one event more by `stepping::step`, which tests all.
+// The same, and one event more by `board::step`, which tests all.
 #[no_mangle]
 pub extern "C" fn bench_step(
     rows: u8,
@@ -120,7 +120,7 @@ pub extern "C" fn bench_step(
     };
     let a = flow(settings, events, mines, &mut *shown, &mut *bits, &mut *work);
     let p = a.position;
-    let o = stepping::step(
+    let o = board::step(
         p,
         code,
         row,

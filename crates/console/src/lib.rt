@@ -151,7 +151,7 @@ pub extern "C" fn lm_step(
     ensures { λ r. ⌜ StepIs f code row column (now (mines .entry)) (now (shown .entry)) (now (bits .entry)) (now (work .entry)) r (now (shown .exit)) (now (bits .exit)) (now (work .exit)) ⌝ }
 {
     let p = flats::read(f);
-    let a = stepping::step(p, code, row, column, mines, shown, bits, work);
+    let a = board::step(p, code, row, column, mines, shown, bits, work);
     flats::answered(f, a)
 }
 

@@ -7,7 +7,7 @@ use lib.IntN.{ℤ}
 use lib.ListN.{length, take, drop, length-append, length-drop}
 use lib.Seq.{length-take-le}
 use Rattle.packed.specs.Line.{outcomeRoom}
-use Rattle.steps.specs.Told.{Rooms}
+use Rattle.steps.specs.Rooms.{Rooms}
 
 pub part-within : (n k : ℕ) → n < 65536 → 65536 ≡ k → n ≤ k
 part-within n k h e = omega arith

@@ -1,48 +1,13 @@
-// Plays packed steps with `stepping::step`, each from its own position: standard input has up to 1,000,000, and the outcome of each is a line.
-// The library `packed` has the layout and the line. A step that is cut off ends the program.
+// Plays packed steps with `board::step`, each from its own position: standard input has up to 1,000,000, and the outcome of each is a line.
+// The library `packed` has the layout and the line, `telling` plays the step. A step that is cut off ends the program.
 // The files stdin and stdout are the Rust's stored answers, made by `oracle/vectors`.
 ghost use mathlib.Core.Path.{_≡_};
 ghost use Prim.Native.Nat.{_≤_};
 ghost use lib.ListN.{length};
-ghost use Rattle.writing.specs.Put.{PutWithin};
 ghost use Rattle.packed.specs.Line.{outcomeRoom};
-ghost use Rattle.steps.specs.Told.{stepLine, Rooms};
+ghost use Rattle.steps.specs.Rooms.{Rooms};
 use libc::STDIN_FILENO;
 use libc::STDOUT_FILENO;
-
-// ---- a step played and told ------------------------------------------------------------------------------------------------------------
-
-// The step of a head and of what is lent, its line from the front of `out`; the answer is how many bytes the line has.
-// `mines` is room for the mine board, whose bytes are `bytes`.
-fn tell_step(
-    head: &[u8; 62],
-    bytes: &[u8],
-    mines: &mut [i8],
-    shown: &mut [u8],
-    bits: &mut [u8],
-    work: &mut [u16],
-    out: &mut [u8],
-) -> usize
-    requires { ⌜ length (now mines) ≡ length (now bytes) ⌝ }
-    requires { ⌜ outcomeRoom (length (now shown)) (length (now bits)) ≤ length (now out) ⌝ }
-    ensures { λ r. ⌜ PutWithin (outcomeRoom (length (now (shown .entry))) (length (now (bits .entry)))) (stepLine (now (head .entry)) (now (bytes .entry)) (now (shown .entry)) (now (bits .entry)) (now (work .entry))) 0 (now (out .entry)) (now (out .exit)) r ⌝ }
-{
-    packed::sign_all(bytes, &mut *mines);
-    let p = packed::position_in(head);
-    let a = stepping::step(
-        p,
-        head[51],
-        head[52],
-        head[53],
-        &*mines,
-        &mut *shown,
-        &mut *bits,
-        &mut *work,
-    );
-    packed::put_outcome(&mut *out, a, &*shown, &*bits)
-}
-
-// ---- the program -----------------------------------------------------------------------------------------------------------------------
 
 // The next bytes, as many as the room has; false where the input ends before.
 fn read_part(room: &mut [u8]) -> bool {
@@ -76,7 +41,7 @@ fn play_rest(
     if !read_lent(&mut *bytes, &mut *shown, &mut *bits) {
         return false;
     }
-    let n = tell_step(
+    let n = telling::tell_step(
         head,
         &*bytes,
         &mut *mines,

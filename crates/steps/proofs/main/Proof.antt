@@ -1,6 +1,6 @@
 -- `steps::main` meets its contract: the rooms keep their lengths, and each turn leaves one step fewer.
 use borrow.Author.Needs.{needs}
-use Rattle.steps.specs.Told.{Rooms}
+use Rattle.steps.specs.Rooms.{Rooms}
 use Rattle.steps.proofs.Lending.{rooms-kept}
 use Rattle.steps.proofs.main.Statement.{statement}
 use Rattle.steps.proofs.main.Tie as tie

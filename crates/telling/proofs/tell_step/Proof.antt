@@ -1,9 +1,9 @@
--- `steps::tell_step` meets its contract: what the step leaves is told, and it keeps the lengths.
+-- `telling::tell_step` meets its contract: what the step leaves is told, and it keeps the lengths.
 use native.Mathlib.Omega.{arith}
 use borrow.Author.Needs.{needs}
-use Rattle.steps.proofs.Telling.{step-told}
-use Rattle.steps.proofs.tell_step.Statement.{statement}
-use Rattle.steps.proofs.tell_step.Tie as tie
+use Rattle.telling.proofs.Telling.{step-told}
+use Rattle.telling.proofs.tell_step.Statement.{statement}
+use Rattle.telling.proofs.tell_step.Tie as tie
 
 sign-all-requires : tie.Need-sign-all-requires
 sign-all-requires c κs = search needs

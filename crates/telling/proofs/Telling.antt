@@ -13,7 +13,7 @@ use Rattle.writing.specs.Put.{PutWithin}
 use Rattle.writing.proofs.Putting.{within, put-as}
 use Rattle.packed.specs.Packed.{positionIn, signedAll}
 use Rattle.packed.specs.Line.{outcomeLine, outcomeRoom, lineAfter}
-use Rattle.steps.specs.Told.{stepLine}
+use Rattle.telling.specs.Told.{stepLine}
 
 -- the step that was played, of the board that was signed and the position that was read, is the packed one
 module _ (head bytes shown bits work : List ℕ) {B : List ℤ} {p : Position} {a : Answer} {shown′ bits′ work′ : List ℕ}
