@@ -1,57 +1,9 @@
 // Plays packed steps with `board::step`, each from its own position: standard input has up to 1,000,000, and the outcome of each is a line.
-// The library `packed` has the layout and the line, `telling` plays the step. A step that is cut off ends the program.
+// The library `packed` has the layout and the line, `telling` the rest of a step, read, played and told. A step that is cut off ends the program.
 // The files stdin and stdout are the Rust's stored answers, made by `oracle/vectors`.
 ghost use mathlib.Core.Path.{_≡_};
-ghost use Prim.Native.Nat.{_≤_};
 ghost use lib.ListN.{length};
-ghost use Rattle.packed.specs.Line.{outcomeRoom};
 ghost use Rattle.steps.specs.Rooms.{Rooms};
-use libc::STDIN_FILENO;
-use libc::STDOUT_FILENO;
-
-// The next bytes, as many as the room has; false where the input ends before.
-fn read_part(room: &mut [u8]) -> bool {
-    io::read_full(STDIN_FILENO, &mut *room) == room.len()
-}
-
-// What is lent with a step; false where it is cut off.
-fn read_lent(bytes: &mut [u8], shown: &mut [u8], bits: &mut [u8]) -> bool {
-    if !read_part(&mut *bytes) {
-        return false;
-    }
-    if !read_part(&mut *shown) {
-        return false;
-    }
-    read_part(&mut *bits)
-}
-
-// The rest of a step, played; false where it is cut off.
-fn play_rest(
-    head: &[u8; 62],
-    bytes: &mut [u8],
-    mines: &mut [i8],
-    shown: &mut [u8],
-    bits: &mut [u8],
-    work: &mut [u16],
-    out: &mut [u8],
-) -> bool
-    requires { ⌜ length (now mines) ≡ length (now bytes) ⌝ }
-    requires { ⌜ outcomeRoom (length (now shown)) (length (now bits)) ≤ length (now out) ⌝ }
-{
-    if !read_lent(&mut *bytes, &mut *shown, &mut *bits) {
-        return false;
-    }
-    let n = telling::tell_step(
-        head,
-        &*bytes,
-        &mut *mines,
-        &mut *shown,
-        &mut *bits,
-        &mut *work,
-        &mut *out,
-    );
-    io::write_all(STDOUT_FILENO, &out[..n])
-}
 
 // The next step; false where there is none.
 fn play_next(
@@ -65,14 +17,14 @@ fn play_next(
     requires { ⌜ Rooms (now bytes) (now mines) (now shown) (now bits) (now work) (now out) ⌝ }
 {
     let mut head = [0u8; 62];
-    if !read_part(&mut head) {
+    if !telling::read_part(&mut head) {
         return false;
     }
     let cells = packed::length_at(&head, 54);
     let looks = packed::length_at(&head, 56);
     let flags = packed::length_at(&head, 58);
     let room = packed::length_at(&head, 60);
-    play_rest(
+    telling::play_rest(
         &head,
         &mut bytes[..cells],
         &mut mines[..cells],

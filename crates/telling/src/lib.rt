@@ -1,15 +1,17 @@
-// A packed step played with `board::step` and told: the line of its outcome.
-// The contract cites specs/Told.antt.
+// A packed step whose head is given: the rest of it read from standard input, played with `board::step` and told on standard output.
+// The contract of a step told cites specs/Told.antt, its line.
 ghost use mathlib.Core.Path.{_≡_};
 ghost use Prim.Native.Nat.{_≤_};
 ghost use lib.ListN.{length};
 ghost use Rattle.writing.specs.Put.{PutWithin};
 ghost use Rattle.packed.specs.Line.{outcomeRoom};
 ghost use Rattle.telling.specs.Told.{stepLine};
+use libc::STDIN_FILENO;
+use libc::STDOUT_FILENO;
 
 // The step of a head and of what is lent, its line from the front of `out`; the answer is how many bytes the line has.
 // `mines` is room for the mine board, whose bytes are `bytes`.
-pub fn tell_step(
+fn tell_step(
     head: &[u8; 62],
     bytes: &[u8],
     mines: &mut [i8],
@@ -35,4 +37,48 @@ pub fn tell_step(
         &mut *work,
     );
     packed::put_outcome(&mut *out, a, &*shown, &*bits)
+}
+
+// The next bytes, as many as the room has; false where the input ends before.
+pub fn read_part(room: &mut [u8]) -> bool {
+    io::read_full(STDIN_FILENO, &mut *room) == room.len()
+}
+
+// What is lent with a step; false where it is cut off.
+fn read_lent(bytes: &mut [u8], shown: &mut [u8], bits: &mut [u8]) -> bool {
+    if !read_part(&mut *bytes) {
+        return false;
+    }
+    if !read_part(&mut *shown) {
+        return false;
+    }
+    read_part(&mut *bits)
+}
+
+// The rest of a step, played; false where it is cut off.
+pub fn play_rest(
+    head: &[u8; 62],
+    bytes: &mut [u8],
+    mines: &mut [i8],
+    shown: &mut [u8],
+    bits: &mut [u8],
+    work: &mut [u16],
+    out: &mut [u8],
+) -> bool
+    requires { ⌜ length (now mines) ≡ length (now bytes) ⌝ }
+    requires { ⌜ outcomeRoom (length (now shown)) (length (now bits)) ≤ length (now out) ⌝ }
+{
+    if !read_lent(&mut *bytes, &mut *shown, &mut *bits) {
+        return false;
+    }
+    let n = tell_step(
+        head,
+        &*bytes,
+        &mut *mines,
+        &mut *shown,
+        &mut *bits,
+        &mut *work,
+        &mut *out,
+    );
+    io::write_all(STDOUT_FILENO, &out[..n])
 }

@@ -1,10 +1,10 @@
--- `steps::play_rest` meets its contract: reading keeps the lengths, so the line has its room.
+-- `telling::play_rest` meets its contract: reading keeps the lengths, so the line has its room.
 use mathlib.Core.Path.{sym, _∙_}
 use native.Mathlib.Omega.{arith}
 use lib.Seq.{length-take-le}
 use borrow.Author.Needs.{needs}
-use Rattle.steps.proofs.play_rest.Statement.{statement}
-use Rattle.steps.proofs.play_rest.Tie as tie
+use Rattle.telling.proofs.play_rest.Statement.{statement}
+use Rattle.telling.proofs.play_rest.Tie as tie
 
 read-lent-requires : tie.Need-read-lent-requires
 read-lent-requires c κs = search needs
