@@ -60,7 +60,7 @@ fn add_closed(shown: &[u8], q: usize, mut c: Cells) -> Cells
 }
 
 // The closed neighbours of a cell, in row order.
-pub fn closed_around(shown: &[u8], rows: usize, columns: usize, cell: usize) -> Cells
+fn closed_around(shown: &[u8], rows: usize, columns: usize, cell: usize) -> Cells
     requires { ⌜ Sized rows columns ⌝ }
     requires { ⌜ cell < rows * columns ⌝ }
     ensures { λ r. ⌜ Collected (closedAround rows columns (now (shown .entry)) cell) 8 r ⌝ }

@@ -1,4 +1,4 @@
-// Pre-flags: one set, and the right button in PreFlaging, which takes one back.
+// Pre-flags set and taken back: the right button in PreFlaging.
 // Each function meets the definition of its name in rules' Step.
 ghost use mathlib.Core.Path.{_≡_};
 ghost use mathlib.Core.Bool.{not, _&&_};
@@ -6,9 +6,9 @@ ghost use mathlib.Core.List.{List};
 ghost use Prim.Native.Nat.{ℕ, _*_, _<_, _≤_};
 ghost use lib.Dec.{eqb};
 ghost use lib.ListN.{length, getD, replicate};
-ghost use Rattle.rules.specs.Clicks.{desk};
+ghost use Rattle.rules.specs.Clicks.{desk, done};
 ghost use Rattle.rules.specs.Passes.{rightClick};
-ghost use Rattle.rules.specs.Step.{cleared, clearedIf, lastTakenBack, preCell, preRight, preFlag};
+ghost use Rattle.rules.specs.Step.{cleared, clearedIf, lastTakenBack, preCell, preRight, preFlag, move, backIf, backToReady, preRc};
 ghost use Rattle.keep.specs.Kept.{Inside};
 ghost use Rattle.buttons.specs.Able.{AbleAt, Plays};
 use rules::GameState;
@@ -116,7 +116,7 @@ fn pre_cell(
     pre_question(p, i, mines, &mut *shown, &mut *bits, &mut *work)
 }
 
-pub fn pre_right(
+fn pre_right(
     p: Position,
     x: Pointer,
     mines: &[i8],
@@ -165,4 +165,60 @@ pub fn pre_flag(
     let y = p.with_preflags(n);
     let q = y.with_game(GameState::PreFlaging);
     buttons::right_at(q, x, mines, &mut *shown, &mut *bits, &mut *work)
+}
+
+// In DownUp on a cell with no pre-flag.
+fn back_to_ready(p: Position, x: Pointer) -> bool
+    ensures { λ r. ⌜ ((shown bits : List ℕ) → r ≡ backToReady x (desk p shown bits)) ⌝ }
+{
+    let held = p.mouse;
+    let m = rules::mouse_number(held);
+    if m != 3 {
+        return false;
+    }
+    if mouse::on_cell(x) {
+        return p.preflags == 0;
+    }
+    false
+}
+
+// The mouse state moves on; back to Ready without clearing where that is due.
+pub fn moves_back(e: usize, p: Position, x: Pointer) -> Played
+    requires { ⌜ e < 8 ⌝ }
+    ensures { λ r. ⌜ ((shown bits : List ℕ) → done (r .answer) (desk (r .position) shown bits) ≡ done 0 (backIf (backToReady x (desk p shown bits)) (move e (desk p shown bits)))) ⌝ }
+{
+    let q = mouse::moved(e, p);
+    if back_to_ready(p, x) {
+        let z = q.with_game(GameState::Ready);
+        return Played {
+            answer: 0,
+            position: z,
+        };
+    }
+    Played {
+        answer: 0,
+        position: q,
+    }
+}
+
+pub fn pre_rc(
+    p: Position,
+    x: Pointer,
+    mines: &[i8],
+    shown: &mut [u8],
+    bits: &mut [u8],
+    work: &mut [u16],
+) -> Played
+    requires { ⌜ AbleAt (now mines) p (now shown) (now bits) (now work) ⌝ }
+    requires { ⌜ Inside (p .settings) x ⌝ }
+    requires { ⌜ p .preflags ≤ 70000 ⌝ }
+    requires { ⌜ ((i : ℕ) → getD (now shown) i 0 ≡ 11 → 1 ≤ p .preflags) ⌝ }
+    ensures { λ r. ⌜ Plays (preRc (now (mines .entry)) x) p (now (shown .entry)) (now (bits .entry)) (now (work .entry)) r (now (shown .exit)) (now (bits .exit)) (now (work .exit)) ⌝ }
+{
+    let held = p.mouse;
+    let m = rules::mouse_number(held);
+    if m == 0 {
+        return pre_right(p, x, mines, &mut *shown, &mut *bits, &mut *work);
+    }
+    moves_back(2, p, x)
 }

@@ -29,7 +29,7 @@ fn starts(p: Position, x: Pointer) -> bool
     false
 }
 
-pub fn ready_lc(p: Position, x: Pointer) -> Played
+fn ready_lc(p: Position, x: Pointer) -> Played
     ensures { λ r. ⌜ ((shown bits : List ℕ) → done (r .answer) (desk (r .position) shown bits) ≡ readyLc x (desk p shown bits)) ⌝ }
 {
     let q = mouse::moved(0, p);
@@ -46,7 +46,7 @@ pub fn ready_lc(p: Position, x: Pointer) -> Played
     }
 }
 
-pub fn ready_rc(
+fn ready_rc(
     p: Position,
     x: Pointer,
     mines: &[i8],

@@ -1,9 +1,9 @@
 -- `ready::pre_rc` meets its contract.
 use borrow.Author.Needs.{needs}
 use Rattle.buttons.proofs.Plays.{plays-by, plays-here}
-use Rattle.preflaging.proofs.Cases.{pre-rc-right, pre-rc-moved}
-use Rattle.preflaging.proofs.pre_rc.Statement.{statement}
-use Rattle.preflaging.proofs.pre_rc.Tie as tie
+use Rattle.preflags.proofs.Cases.{pre-rc-right, pre-rc-moved}
+use Rattle.preflags.proofs.pre_rc.Statement.{statement}
+use Rattle.preflags.proofs.pre_rc.Tie as tie
 
 mouse-number-requires : tie.Need-mouse-number-requires
 mouse-number-requires c κs = search needs

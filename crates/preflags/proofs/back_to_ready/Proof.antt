@@ -2,9 +2,9 @@
 use mathlib.Core.Path.{_∙_, sym, refl}
 use mathlib.Core.List.{[]}
 use borrow.Author.Needs.{needs}
-use Rattle.preflaging.proofs.Cases.{back-none, back-off, back-cell}
-use Rattle.preflaging.proofs.back_to_ready.Statement.{statement}
-use Rattle.preflaging.proofs.back_to_ready.Tie as tie
+use Rattle.preflags.proofs.Cases.{back-none, back-off, back-cell}
+use Rattle.preflags.proofs.back_to_ready.Statement.{statement}
+use Rattle.preflags.proofs.back_to_ready.Tie as tie
 
 mouse-number-requires : tie.Need-mouse-number-requires
 mouse-number-requires c κs = search needs

@@ -2,9 +2,9 @@
 use mathlib.Core.Path.{_∙_, sym}
 use mathlib.Core.List.{[]}
 use borrow.Author.Needs.{needs}
-use Rattle.preflaging.proofs.Cases.{moves-back-yes, moves-back-no}
-use Rattle.preflaging.proofs.moves_back.Statement.{statement}
-use Rattle.preflaging.proofs.moves_back.Tie as tie
+use Rattle.preflags.proofs.Cases.{moves-back-yes, moves-back-no}
+use Rattle.preflags.proofs.moves_back.Statement.{statement}
+use Rattle.preflags.proofs.moves_back.Tie as tie
 
 moved-requires : tie.Need-moved-requires
 moved-requires c κs = search needs
