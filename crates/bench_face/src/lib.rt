@@ -1,13 +1,9 @@
-// What the bench calls: inner functions under plain names, numbers and slices only.
+// What the bench calls to open and to play: inner functions under plain names, numbers and slices only.
 ghost use mathlib.Core.List.{[], _∷_};
 ghost use Prim.Native.Nat.{_*_, _<_};
 ghost use Rattle.rules.specs.Lent.{workRoom};
 ghost use Rattle.cells.specs.Ground.{Fitting, Zeros};
-ghost use lib.ListN.{length};
-ghost use Rattle.rules.specs.Printout.{printoutOf};
 ghost use Rattle.opening.specs.Parts.{Refreshed};
-ghost use Rattle.writing.specs.Put.{PutWithin};
-ghost use Rattle.player.specs.Rooms.{Enough};
 use rules::Answer;
 use rules::Position;
 use rules::Settings;
@@ -133,28 +129,4 @@ pub extern "C" fn bench_step(
     let q = o.position;
     tell(q, &mut *counts);
     o.number
-}
-
-// `player::print_book`: a book read, set up, played and printed.
-#[no_mangle]
-pub extern "C" fn bench_replay(
-    s: &[u8],
-    mines: &mut [i8],
-    shown: &mut [u8],
-    bits: &mut [u8],
-    work: &mut [u16],
-    out: &mut [u8],
-) -> usize
-    requires { ⌜ length (now s) < 4294967296 ⌝ }
-    requires { ⌜ Enough (now mines) (now shown) (now bits) (now work) (now out) ⌝ }
-    ensures { λ r. ⌜ PutWithin 172184 (printoutOf (now (s .entry))) 0 (now (out .entry)) (now (out .exit)) r ⌝ }
-{
-    player::print_book(
-        s,
-        &mut *mines,
-        &mut *shown,
-        &mut *bits,
-        &mut *work,
-        &mut *out,
-    )
 }
