@@ -2,3 +2,4 @@ pub mod Words
 pub mod Grid
 pub mod Face
 pub mod Filling
+pub mod Stack

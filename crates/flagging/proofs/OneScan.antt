@@ -21,7 +21,8 @@ use Rattle.cells.specs.Ground.{Valued, Below}
 use Rattle.opening.specs.Changed.{In}
 use Rattle.opening.proofs.Lists.{count-sum, in-pushed}
 use Rattle.opening.proofs.Cases.{closed-in}
-use Rattle.flagging.specs.Listing.{Grown, Flaggable, Flags}
+use Rattle.cells.specs.Stack.{Grown}
+use Rattle.flagging.specs.Listing.{Flaggable, Flags}
 use Rattle.flagging.specs.Passing.{Prepared, Leaves}
 use Rattle.flagging.proofs.Grows.{listed-below}
 use Rattle.flagging.proofs.Signed.{all-closed-true, all-closed-yes}

@@ -2,18 +2,11 @@
 use mathlib.Core.Path.{_≡_}
 use mathlib.Core.List.{List}
 use Prim.Native.Nat.{ℕ, _+_, _*_, _≤_}
-use lib.ListN.{length, getD}
-use Rattle.rules.specs.Words.{stackOf}
+use lib.ListN.{length}
 use Rattle.rules.specs.Clicks.{Desk}
 use Rattle.cells.specs.Ground.{Zeros}
+use Rattle.cells.specs.Stack.{Rest}
 use Rattle.clicks.specs.Room.{closedIn}
-
--- a list of w whose top was at t is now st in w′, with its top at r: at most n higher, and nothing above it changed
-pub record Grown (w : List ℕ) (t n : ℕ) (st w′ : List ℕ) (r : ℕ) : Type 0 where
-  pub stack : stackOf w′ r ≡ st
-  pub frame : (i : ℕ) → r ≤ i → getD w′ i 0 ≡ getD w i 0
-  pub up : t ≤ r
-  pub most : r ≤ t + n
 
 -- the shown board and the bits have their lengths, and a flag on every closed cell can be counted
 pub record Flaggable (cells : ℕ) (d : Desk) : Type 0 where
@@ -25,4 +18,4 @@ pub record Flaggable (cells : ℕ) (d : Desk) : Type 0 where
 pub record Flags (got due : Desk) (n : ℕ) (w w′ : List ℕ) : Type 0 where
   pub outcome : got ≡ due
   pub clear : Zeros n w′
-  pub rest : (i : ℕ) → n ≤ i → getD w′ i 0 ≡ getD w i 0
+  pub rest : Rest n w w′

@@ -14,8 +14,9 @@ use Rattle.rules.specs.Grid.{neighbour, cellBefore, ninth, pushIf, pushed}
 use Rattle.rules.specs.Lent.{workRoom}
 use Rattle.rules.specs.Judging.{freeAt, unmarked}
 use Rattle.cells.specs.Ground.{Zeros}
-use Rattle.cells.proofs.Words.{stack-push}
-use Rattle.judging.specs.Parts.{stackRoom, marksOf, Rest, Grown}
+use Rattle.cells.specs.Stack.{Rest, Grown}
+use Rattle.cells.proofs.Stack.{grown-on}
+use Rattle.judging.specs.Parts.{stackRoom, marksOf}
 use Rattle.judging.proofs.Turns.{free-fact}
 
 -- ---- the marks -----------------------------------------------------------------------------------------------------------------------
@@ -81,17 +82,6 @@ off-ne shown q h e = let d : getD shown q 0 ≡ 0 = List·getD-eq-default shown 
 
 -- ---- pushes --------------------------------------------------------------------------------------------------------------------------
 
-pub grown-push : (w : List ℕ) (t q : ℕ) (b : Bool) → b ≡ true → t < length w → Grown w t 1 (pushIf b q (stackOf w t)) (set w t q) (t + 1)
-grown-push w t q b e h =
-    record { stack = rw e (stack-push w t q h); frame = λ i le. getD-set-other w t i q 0 (λ (d : i ≡ t). omega arith); up = omega arith; most = omega arith }
-
-pub grown-none : (w : List ℕ) (t q : ℕ) (b : Bool) → b ≡ false → Grown w t 1 (pushIf b q (stackOf w t)) w t
-grown-none w t q b e = record { stack = rw e refl; frame = λ i le. refl; up = omega arith; most = omega arith }
-
-pub grown-start : (R C : ℕ) (p : ℕ → Bool) (i : ℕ) (w : List ℕ) (t : ℕ) → Grown w t 0 (pushed R C p i 0 (stackOf w t)) w t
-unfolding pushed
-grown-start R C p i w t = record { stack = refl; frame = λ j le. refl; up = omega arith; most = omega arith }
-
 -- one neighbour more
 pub grown-more : (R C i k : ℕ) (w : List ℕ) (t : ℕ) (w′ : List ℕ) (r : ℕ) (w″ : List ℕ) (r′ q : ℕ)
     → workRoom (R * C) ≤ length w → length w′ ≡ length w → t + k ≤ stackRoom (R * C)
@@ -102,12 +92,8 @@ pub grown-more : (R C i k : ℕ) (w : List ℕ) (t : ℕ) (w′ : List ℕ) (r :
 unfolding pushed
 grown-more R C i k w t w′ r w″ r′ q room l low g e h =
     let m : marksOf (R * C) w′ ≡ marksOf (R * C) w = marks-frame (R * C) w room w′ r (omega (arith, g .most)) (g .frame) l in
-    record {
-      stack = rw add-one (h .stack ∙ cc);
-      frame = λ j le. h .frame j le ∙ g .frame j (omega (arith, h .up));
-      up = omega (arith, h .up, g .up);
-      most = omega (arith, h .most, g .most);
-    }
+    grown-on w t k 1 (k + 1) (pushed R C (freeAt (marksOf (R * C) w)) i k (stackOf w t)) w′ r (pushIf (freeAt (marksOf (R * C) w′) q) q (stackOf w′ r)) w″ r′
+    (pushed R C (freeAt (marksOf (R * C) w)) i (k + 1) (stackOf w t)) g h (omega arith) (rw add-one cc)
 
 -- a cell's neighbour, by its row and column
 pub neighbour-of : (R C i k : ℕ) {q : ℕ} → q ≡ cellBefore R C (i / C + ninth k / 3) (i % C + ninth k % 3) → q ≡ neighbour R C i k

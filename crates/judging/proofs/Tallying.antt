@@ -17,7 +17,8 @@ use Rattle.rules.specs.Judging.{freeAt, walkFrom, judgedLeft, Walked, Tally, co
 use Rattle.cells.specs.Ground.{Zeros}
 use Rattle.cells.proofs.Words.{stack-length}
 use Rattle.judging.specs.declared.Sum.{Sum}
-use Rattle.judging.specs.Parts.{marksOf, Rest, Went, Judged, Tallied, ChordJudged}
+use Rattle.cells.specs.Stack.{Rest}
+use Rattle.judging.specs.Parts.{marksOf, Went, Judged, Tallied, ChordJudged}
 use Rattle.lones.specs.Counts.{LoneRow}
 use Rattle.judging.proofs.Marks.{marks-none}
 use Rattle.judging.proofs.Judging.{judge-marked, judge-number, judge-zero, judged-length, length-below}

@@ -16,7 +16,8 @@ use Rattle.rules.specs.Lent.{workRoom}
 use Rattle.rules.specs.Opening.{turns}
 use Rattle.rules.specs.Judging.{freeAt, pass, kind, walk, walkFrom}
 use Rattle.cells.proofs.Words.{stack-above, stack-length}
-use Rattle.judging.specs.Parts.{stackRoom, marksOf, Walkable, Rest, Grown, Stepped, Went}
+use Rattle.cells.specs.Stack.{Rest, Grown}
+use Rattle.judging.specs.Parts.{stackRoom, marksOf, Walkable, Stepped, Went}
 use Rattle.judging.proofs.Turns.{stackNext, marksNext, wholeNext, kind-marked, kind-number, kind-flag, kind-zero, walk-nil, walk-cons, freeCount, free-le, free-pos, cheaper}
 use Rattle.judging.proofs.Marks.{marks-length, marks-frame, marks-set}
 

@@ -3,13 +3,14 @@ use mathlib.Core.Path.{_≡_}
 use mathlib.Core.Bool.{Bool, false}
 use mathlib.Core.List.{List}
 use Prim.Native.Nat.{ℕ, _+_, _*_, _≤_}
-use lib.ListN.{length, getD, set, take, drop}
+use lib.ListN.{length, set, take, drop}
 use lib.IntN.{ℤ}
 use Rattle.rules.specs.Words.{stackOf}
 use Rattle.rules.specs.Grid.{pushed}
 use Rattle.rules.specs.Lent.{workRoom}
 use Rattle.rules.specs.Judging.{freeAt, kind, stackBy, marksBy, wholeBy, walkFrom, judgeOne, tally, openingsJudged}
 use Rattle.cells.specs.Ground.{Mined}
+use Rattle.cells.specs.Stack.{Rest}
 use Rattle.judging.specs.declared.Sum.{Sum}
 
 -- the stack has the first 7 × cells + 8 entries of the work
@@ -24,17 +25,6 @@ marksOf cells w = take cells (drop (stackRoom cells) w)
 pub record Walkable (B : List ℤ) (work : List ℕ) (R C : ℕ) : Type 0 where
   pub mined : Mined B R C
   pub room : workRoom (R * C) ≤ length work
-
--- w′ agrees with w from n on
-abbrev pub Rest : ℕ → List ℕ → List ℕ → Type 0
-Rest n w w′ = (i : ℕ) → n ≤ i → getD w′ i 0 ≡ getD w i 0
-
--- work w with its top at t became w′ with its top at r: the stack is now st, at most n higher, and nothing above it changed
-pub record Grown (w : List ℕ) (t n : ℕ) (st w′ : List ℕ) (r : ℕ) : Type 0 where
-  pub stack : stackOf w′ r ≡ st
-  pub frame : Rest r w w′
-  pub up : t ≤ r
-  pub most : r ≤ t + n
 
 -- the cell was taken off the stack of w, whose top is now at t, and worked off: w, t and whole became those with a prime
 pub record Stepped (B : List ℤ) (R C : ℕ) (shown : List ℕ) (i t : ℕ) (w : List ℕ) (whole : Bool) (w′ : List ℕ) (t′ : ℕ) (whole′ : Bool) : Type 0 where

@@ -10,7 +10,8 @@ ghost use Rattle.rules.specs.Grid.{pushIf, pushed};
 ghost use Rattle.rules.specs.Lent.{workRoom};
 ghost use Rattle.rules.specs.Judging.{freeAt, judgedLeft, total3bv};
 ghost use Rattle.cells.specs.Ground.{Sized, Mined, Fitting, Zeros, Below};
-ghost use Rattle.judging.specs.Parts.{stackRoom, marksOf, Walkable, Grown, Stepped, Went, Judged, Tallied, Lent, ChordJudged};
+ghost use Rattle.cells.specs.Stack.{Grown};
+ghost use Rattle.judging.specs.Parts.{stackRoom, marksOf, Walkable, Stepped, Went, Judged, Tallied, Lent, ChordJudged};
 
 // The cell q is on the board and has no mark.
 fn free(work: &[u16], size: usize, q: usize) -> bool

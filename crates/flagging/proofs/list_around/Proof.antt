@@ -7,8 +7,9 @@ use lib.ListN.{length}
 use Rattle.rules.specs.Words.{stackOf}
 use Rattle.rules.specs.Grid.{cellOf, pushed}
 use Rattle.rules.specs.Opening.{closedAt}
-use Rattle.flagging.specs.Listing.{Grown}
-use Rattle.flagging.proofs.Grows.{grown-more, grown-start}
+use Rattle.cells.specs.Stack.{Grown}
+use Rattle.cells.proofs.Stack.{grown-start}
+use Rattle.flagging.proofs.Grows.{grown-more}
 use Rattle.flagging.proofs.list_around.Statement.{statement}
 use Rattle.flagging.proofs.list_around.Tie as tie
 

@@ -4,7 +4,7 @@ use Prim.Native.Nat.{_≤_, _-_, _*_}
 use native.Mathlib.Omega.{arith}
 use lib.ListN.{length}
 use Rattle.rules.specs.Passes.{listed}
-use Rattle.flagging.specs.Listing.{Grown}
+use Rattle.cells.specs.Stack.{Grown}
 use Rattle.flagging.proofs.Grows.{rows-start, rows-turn, row-fits}
 use Rattle.flagging.proofs.list_cells.Statement.{statement}
 use Rattle.flagging.proofs.list_cells.Tie as tie

@@ -2,7 +2,7 @@
 use borrow.Author.Tests.{eq-eqb, ne-eqb}
 use borrow.Author.Needs.{needs}
 use Rattle.cells.proofs.Face.{unseen}
-use Rattle.flagging.proofs.Grows.{grown-push, grown-none}
+use Rattle.cells.proofs.Stack.{grown-push, grown-none}
 use Rattle.flagging.proofs.list_closed.Statement.{statement}
 use Rattle.flagging.proofs.list_closed.Tie as tie
 

@@ -8,8 +8,10 @@ use Rattle.rules.specs.Words.{stackOf}
 use Rattle.rules.specs.Grid.{pushed}
 use Rattle.rules.specs.Judging.{freeAt}
 use Rattle.cells.proofs.Grid.{cellBefore-le, on-grid}
-use Rattle.judging.specs.Parts.{marksOf, Grown}
-use Rattle.judging.proofs.Marks.{grown-start, grown-more, neighbour-of}
+use Rattle.cells.specs.Stack.{Grown}
+use Rattle.judging.specs.Parts.{marksOf}
+use Rattle.cells.proofs.Stack.{grown-start}
+use Rattle.judging.proofs.Marks.{grown-more, neighbour-of}
 use Rattle.judging.proofs.push_around.Statement.{statement}
 use Rattle.judging.proofs.push_around.Tie as tie
 
@@ -29,7 +31,8 @@ rem-column : tie.Need-rem-column Inv-loop μ-loop
 rem-column c = search needs
 
 loop-holds : tie.Need-loop-holds Inv-loop μ-loop
-loop-holds c = (omega arith, grown-start _ _ _ _ _ _, refl)
+unfolding pushed
+loop-holds c = (omega arith, grown-start _ _, refl)
 
 neighbour-at-requires : tie.Need-neighbour-at-requires Inv-loop μ-loop
 neighbour-at-requires c κs = let a = (c .before .before .before .args) in (c .before .before .before .pre .0, (on-grid (a .rows) (a .columns) (a .cell) (c .before .before .before .pre .0 .column) (c .before .before .before .pre .1 .0), omega arith))

@@ -1,7 +1,7 @@
 -- `judging::push_free`: one store at the top where the cell is free, none where it is not.
 use mathlib.Core.Path.{sym, _∙_}
 use native.Mathlib.Omega.{arith}
-use Rattle.judging.proofs.Marks.{grown-push, grown-none}
+use Rattle.cells.proofs.Stack.{grown-push, grown-none}
 use borrow.Author.Needs.{needs}
 use Rattle.judging.proofs.push_free.Statement.{statement}
 use Rattle.judging.proofs.push_free.Tie as tie
@@ -31,7 +31,7 @@ same-length-2 : tie.Need-same-length-2
 same-length-2 c = search needs
 
 returns-2 : tie.Need-returns-2
-returns-2 c = grown-none _ _ _ _ (sym (c .before .free .ensures) ∙ c .if1 .left)
+returns-2 c = grown-none _ _ _ _ _ (sym (c .before .free .ensures) ∙ c .if1 .left)
 
 pub push-free-spec : {M : Type 1} → statement M
 push-free-spec =
