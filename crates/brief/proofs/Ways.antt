@@ -5,7 +5,7 @@ use mathlib.Core.List.{List}
 use Prim.Native.Nat.{ℕ, _+_, _*_, _<_, _≤_}
 use native.Mathlib.Omega.{arith}
 use borrow.Author.Tests.{eq-eqb, ne-eqb, ltb-true, not-false}
-use lib.Dec.{eqb, ltb}
+use lib.Dec.{eqb, ltb, leb}
 use lib.ListN.{length, getD, set}
 use lib.IntN.{ℤ}
 use Rattle.rules.specs.declared.Position.{Position}
@@ -148,21 +148,21 @@ module _ (B : List ℤ) (row column f : ℕ) (p : Position) (shown bits : List �
   lr-number m i e z c ten face nonzero mine =
       number-plays (sym e ∙ z) (subst (λ (j : ℕ). getD shown j 0 ≡ 10) c ten) (face ∙ ap (faceAt B) c) nonzero mine
 
--- the counts of a left click on a number, by its 0 neighbours
+-- the counts of a left click on a number, by whether a 0 is beside it
 module _ (B : List ℤ) (row column f : ℕ) (p : Position) (shown : List ℕ) (mined : Mined B (p .settings .rows) (p .settings .columns)) (o : Inside (p .settings) (Cell row column)) where
   abbrev at : ℕ
   at = cellOf (p .settings .columns) row column
 
-  module _ (face : f ≡ faceAt B at) (nonzero : f ≡ 0 → ⊥) (mine : f ≡ 15 → ⊥) (zeros : ℕ)
-      (around-it : zeros ≡ around (p .settings .rows) (p .settings .columns) (faceIs B 0) at)
-      (one : ℕ) (added : one ≡ bit (eqb zeros 0)) (up y z q : Position) (turned : up ≡ moved 1 p) (ley : y ≡ withLeft up (p .counts .left + 1)) (lez : z ≡ withLce y (p .counts .lce + 1))
+  module _ (face : f ≡ faceAt B at) (nonzero : f ≡ 0 → ⊥) (mine : f ≡ 15 → ⊥) (beside : Bool)
+      (around-it : beside ≡ leb 1 (around (p .settings .rows) (p .settings .columns) (faceIs B 0) at))
+      (one : ℕ) (added : one ≡ bit (not beside)) (up y z q : Position) (turned : up ≡ moved 1 p) (ley : y ≡ withLeft up (p .counts .left + 1)) (lez : z ≡ withLce y (p .counts .lce + 1))
       (leq : q ≡ withSolvedLeft z (p .secrets .«solved_left» + one)) where
     solves : (bits : List ℕ) → bit (solvesLeft B (addLeft (move 1 (desk p shown bits))) at) ≡ one
     unfolding moved
     solves bits =
         ap bit
         (solves-number B (addLeft (move 1 (desk p shown bits))) at f face nonzero
-        ∙ sym (lone-number B (p .settings .rows) (p .settings .columns) at mined (on-board (p .settings) row column o) f face nonzero mine zeros around-it (eqb zeros 0) refl))
+        ∙ sym (lone-number B (p .settings .rows) (p .settings .columns) at mined (on-board (p .settings) row column o) f face nonzero mine beside around-it))
         ∙ sym added
 
     pub number-counts : (bits : List ℕ) → desk q shown bits ≡ leftCounts B (addLeft (move 1 (desk p shown bits))) at

@@ -112,8 +112,8 @@ fn number_at(p: Position, row: u8, column: u8, face: u8, mines: &[i8], shown: &m
 {
     let rows = p.settings.rows as usize;
     let columns = p.settings.columns as usize;
-    let zeros = cells::faces_around(mines, rows, columns, row as usize, column as usize, 0);
-    let one = cells::one_if(zeros == 0);
+    let beside = cells::zero_beside(mines, rows, columns, row as usize, column as usize);
+    let one = cells::one_if(!beside);
     let left = p.counts.left + 1;
     let lce = p.counts.lce + 1;
     let solved = p.secrets.solved_left + one;

@@ -1,12 +1,14 @@
 -- Laws of the words: tests and choices, counting and testing below a number, rounds, and stacks in the first entries of a list.
 use mathlib.Core.Path.{_≡_, refl, ap, ap₂, sym, _∙_}
-use mathlib.Core.Bool.{Bool, true, false, true≢false, false≢true, _&&_}
+use mathlib.Core.Bool.{Bool, true, false, true≢false, false≢true, _&&_, _||_}
 use mathlib.Core.List.{List, [], _∷_}
 use Prim.Native.Nat.{ℕ, zero, suc, _+_, _*_, _<_, _≤_}
 use native.Mathlib.Nat.{mul-le-mul}
 use native.Mathlib.Omega.{arith}
 use native.Mathlib.Numerals.{add-one}
 use native.Mathlib.Decide.{ℕ-discrete}
+use borrow.Author.Tests.{le-leb}
+use lib.Dec.{leb}
 use lib.ListN.{length, getD, set, length-append}
 use lib.Seq.{getD-set-same, getD-set-other}
 use Rattle.rules.specs.Words.{pick, unless, bit, count, every, inOrder, stackOf, rounds}
@@ -56,6 +58,23 @@ unless-passed n false rest e = absurd (omega arith)
 pub count-turn : (f : ℕ → Bool) (k n one : ℕ) → n ≡ count f k → one ≡ bit (f k) → n + one ≡ count f (k + 1)
 unfolding count
 count-turn f k n one e d = rw (add-one k) (cc)
+
+-- whether some number passes, one turn on
+pub some-turn : (f : ℕ → Bool) (k : ℕ) (any b : Bool) → any ≡ leb 1 (count f k) → b ≡ f k → (any || b) ≡ leb 1 (count f (k + 1))
+unfolding count
+some-turn f k any b e d = rw (add-one k, e, d) (go (count f k) (f k))
+  where
+    or-true : (a : Bool) → (a || true) ≡ true
+    or-true true = refl
+    or-true false = refl
+
+    or-false : (a : Bool) → (a || false) ≡ a
+    or-false true = refl
+    or-false false = refl
+
+    go : (n : ℕ) (x : Bool) → (leb 1 n || x) ≡ leb 1 (n + bit x)
+    go n true = or-true (leb 1 n) ∙ sym (le-leb 1 (n + 1) (omega arith))
+    go n false = let z : n ≡ n + 0 = omega arith in or-false (leb 1 n) ∙ ap (leb 1) z
 
 pub count-le : (f : ℕ → Bool) (n : ℕ) → count f n ≤ n
 unfolding count

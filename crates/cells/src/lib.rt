@@ -3,7 +3,7 @@
 ghost use mathlib.Core.Path.{_≡_};
 ghost use mathlib.Core.List.{_++_};
 ghost use Prim.Native.Nat.{ℕ, _+_, _*_, _/_, _%_, _<_, _≤_};
-ghost use lib.Dec.{eqb};
+ghost use lib.Dec.{eqb, leb};
 ghost use lib.ListN.{length, getD, drop, replicate};
 ghost use Rattle.rules.specs.Words.{bit};
 ghost use Rattle.rules.specs.Grid.{sizeOk, cellOf, ninth, cellBefore, around};
@@ -221,6 +221,23 @@ fn ring_faces(mines: &[i8], columns: usize, first: usize, f: u8) -> u8
     n
 }
 
+// One of the eight around the middle of nine is a 0. There is no branch: the compiler makes three instructions of each.
+fn ring_zero(mines: &[i8], columns: usize, first: usize) -> bool
+    requires { ⌜ columns ≤ 64 ⌝ }
+    requires { ⌜ first + 2 * columns + 2 < length (now mines) ⌝ }
+    requires { ⌜ length (now mines) ≤ 2048 ⌝ }
+    requires { ⌜ Valued (now mines) ⌝ }
+    ensures { λ r. ⌜ r ≡ leb 1 (ring columns (faceIs (now (mines .entry)) 0) first) ⌝ }
+{
+    let mut any = false;
+    for k in 0..8 {
+        let q = ring_at(columns, first, k);
+        let face = face_at(mines, q);
+        any = any | (face == 0);
+    }
+    any
+}
+
 // How many neighbours of a cell have the face f: 15 for mines, 0 for the 0 cells.
 pub fn faces_around(
     mines: &[i8],
@@ -239,6 +256,20 @@ pub fn faces_around(
         return ring_faces(mines, columns, first, f);
     }
     edge_faces(mines, rows, columns, row, column, f)
+}
+
+// A neighbour of a cell is a 0.
+pub fn zero_beside(mines: &[i8], rows: usize, columns: usize, row: usize, column: usize) -> bool
+    requires { ⌜ Mined (now mines) rows columns ⌝ }
+    requires { ⌜ (row < rows) × (column < columns) ⌝ }
+    ensures { λ r. ⌜ r ≡ leb 1 (around rows columns (faceIs (now (mines .entry)) 0) (cellOf columns row column)) ⌝ }
+{
+    if is_inner(rows, columns, row, column) {
+        let first = (row - 1) * columns + (column - 1);
+        return ring_zero(mines, columns, first);
+    }
+    let zeros = edge_faces(mines, rows, columns, row, column, 0);
+    1 <= zeros
 }
 
 // ---- lent lists ------------------------------------------------------------------------------------------------------------------------

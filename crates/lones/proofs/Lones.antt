@@ -1,13 +1,13 @@
 -- Lone numbers: the ways through the code, and their counts over a chord's cells, a row and the board.
 use mathlib.Core.Path.{_≡_, refl, ap, ap₂, sym, _∙_}
-use mathlib.Core.Bool.{Bool, false}
+use mathlib.Core.Bool.{Bool, false, not}
 use mathlib.Core.List.{List, [], _∷_}
-use Prim.Native.Nat.{ℕ, _+_, _*_, _/_, _%_, _<_, _≤_}
+use Prim.Native.Nat.{ℕ, zero, suc, _+_, _*_, _/_, _%_, _<_, _≤_}
 use native.Mathlib.Nat.{suc-mul, mul-le-mul-right}
 use native.Mathlib.Omega.{arith}
 use native.Mathlib.Numerals.{add-one}
-use borrow.Author.Tests.{le-leb}
-use lib.Dec.{eqb}
+use borrow.Author.Tests.{le-leb, ne-eqb}
+use lib.Dec.{eqb, leb}
 use lib.ListN.{length, getD}
 use lib.IntN.{ℤ, pos}
 use Rattle.rules.specs.Words.{bit, stackOf, below}
@@ -21,6 +21,10 @@ use Rattle.cells.proofs.Face.{face-safe}
 use Rattle.lones.specs.Counts.{Lone, LoneRow}
 
 -- ---- one cell ------------------------------------------------------------------------------------------------------------------------
+
+none-beside : (n : ℕ) → not (leb 1 n) ≡ eqb n 0
+none-beside zero = refl
+none-beside (suc n) = ap not (le-leb 1 (suc n) (omega arith)) ∙ sym (ne-eqb (suc n) 0 (λ e. omega arith))
 
 module _ (B : List ℤ) (R C i : ℕ) where
   pub lone-zero : faceAt B i ≡ 0 → loneAt B R C i ≡ false
@@ -37,14 +41,13 @@ module _ (B : List ℤ) (R C i : ℕ) where
   pub lone-no-mine : (v : ℕ) → v ≡ faceAt B i → v ≡ 15 → false ≡ loneAt B R C i
   lone-no-mine v f z = sym (lone-mine (sym f ∙ z))
 
-  -- a number: its 0 neighbours decide
-  pub lone-number : Mined B R C → i < R * C → (v : ℕ) → v ≡ faceAt B i → (v ≡ 0 → ⊥) → (v ≡ 15 → ⊥) → (n : ℕ) → n ≡ around R C (faceIs B 0) i → (b : Bool) → eqb n 0 ≡ b → b ≡ loneAt B R C i
+  -- a number: a 0 beside it decides
+  pub lone-number : Mined B R C → i < R * C → (v : ℕ) → v ≡ faceAt B i → (v ≡ 0 → ⊥) → (v ≡ 15 → ⊥) → (b : Bool) → b ≡ leb 1 (around R C (faceIs B 0) i) → not b ≡ loneAt B R C i
   unfolding loneAt zeroAt
-  lone-number m on v f z k n e b d =
+  lone-number m on v f z k b e =
       let s : faceAt B i ≤ 8 = face-safe (getD B i (pos 0)) (m .valued i (rw (m .long) on)) (λ y. k (f ∙ y)) in
       let o : 1 ≤ faceAt B i = omega arith in
-      let a : eqb (around R C (faceIs B 0) i) 0 ≡ b = ap (λ (x : ℕ). eqb x 0) (sym e) ∙ d in
-      simp (le-leb _ _ o, le-leb _ _ s, a)
+      simp (le-leb _ _ o, le-leb _ _ s, ap not e ∙ none-beside (around R C (faceIs B 0) i))
 
 pub lone-cell : (B : List ℤ) (R C i : ℕ) {b : Bool} → b ≡ loneAt B R C (cellOf C (i / C) (i % C)) → b ≡ loneAt B R C i
 lone-cell B R C i e = e ∙ ap (loneAt B R C) (cell-back C i)

@@ -21,11 +21,8 @@ fn lone_at(mines: &[i8], rows: usize, columns: usize, row: usize, column: usize)
     if v == 15 {
         return false;
     }
-    let zeros = cells::faces_around(mines, rows, columns, row, column, 0);
-    if zeros == 0 {
-        return true;
-    }
-    false
+    let beside = cells::zero_beside(mines, rows, columns, row, column);
+    !beside
 }
 
 // A number without a 0 neighbour.

@@ -13,8 +13,8 @@ cast-rows c = search needs
 cast-columns : tie.Need-cast-columns
 cast-columns c = search needs
 
-faces-around-requires : tie.Need-faces-around-requires
-faces-around-requires c κs = search needs
+zero-beside-requires : tie.Need-zero-beside-requires
+zero-beside-requires c κs = search needs
 
 one-if-requires : tie.Need-one-if-requires
 one-if-requires c κs = search needs
@@ -56,13 +56,13 @@ same-length : tie.Need-same-length
 same-length c = search needs
 
 returns : tie.Need-returns
-returns c = number-won _ _ _ _ _ _ (c .before .before .before .before .before .before .before .before .before .before .before .before .before .before .before .before .before .pre .0) (c .before .before .before .before .before .before .before .before .before .before .before .before .before .before .before .before .before .pre .1 .1 .0) (c .before .before .before .before .before .before .before .before .before .before .before .before .before .before .before .before .before .pre .1 .1 .1 .1 .0) (c .before .before .before .before .before .before .before .before .before .before .before .before .before .before .before .before .before .pre .1 .1 .1 .1 .1) (c .before .before .before .before .before .before .before .before .before .before .before .before .before .before .before .before .before .pre .1 .1 .1 .1 .2) _ (c .before .before .before .before .before .before .before .before .before .before .before .before .before .faces-around .ensures .0) _ (c .before .before .before .before .before .before .before .before .before .before .before .before .one-if .ensures .0) _ _ _ _ (c .before .before .before .before .before .before .before .before .moved .ensures) (c .before .before .before .before .before .before .before .with-left .ensures) (c .before .before .before .before .before .before .with-lce .ensures) (c .before .before .before .before .before .with-solved-left .ensures) _ (c .before .before .before .before .cell .ensures) _ (c .before .before .is-win-near .ensures) (c .before .if1 .taken) _ (c .with-game .ensures)
+returns c = number-won _ _ _ _ _ _ (c .before .before .before .before .before .before .before .before .before .before .before .before .before .before .before .before .before .pre .0) (c .before .before .before .before .before .before .before .before .before .before .before .before .before .before .before .before .before .pre .1 .1 .0) (c .before .before .before .before .before .before .before .before .before .before .before .before .before .before .before .before .before .pre .1 .1 .1 .1 .0) (c .before .before .before .before .before .before .before .before .before .before .before .before .before .before .before .before .before .pre .1 .1 .1 .1 .1) (c .before .before .before .before .before .before .before .before .before .before .before .before .before .before .before .before .before .pre .1 .1 .1 .1 .2) _ (c .before .before .before .before .before .before .before .before .before .before .before .before .before .zero-beside .ensures) _ (c .before .before .before .before .before .before .before .before .before .before .before .before .one-if .ensures .0) _ _ _ _ (c .before .before .before .before .before .before .before .before .moved .ensures) (c .before .before .before .before .before .before .before .with-left .ensures) (c .before .before .before .before .before .before .with-lce .ensures) (c .before .before .before .before .before .with-solved-left .ensures) _ (c .before .before .before .before .cell .ensures) _ (c .before .before .is-win-near .ensures) (c .before .if1 .taken) _ (c .with-game .ensures)
 
 same-length-2 : tie.Need-same-length-2
 same-length-2 c = search needs
 
 returns-2 : tie.Need-returns-2
-returns-2 c = number-open _ _ _ _ _ _ (c .before .before .before .before .before .before .before .before .before .before .before .before .before .before .before .before .pre .0) (c .before .before .before .before .before .before .before .before .before .before .before .before .before .before .before .before .pre .1 .1 .0) (c .before .before .before .before .before .before .before .before .before .before .before .before .before .before .before .before .pre .1 .1 .1 .1 .0) (c .before .before .before .before .before .before .before .before .before .before .before .before .before .before .before .before .pre .1 .1 .1 .1 .1) (c .before .before .before .before .before .before .before .before .before .before .before .before .before .before .before .before .pre .1 .1 .1 .1 .2) _ (c .before .before .before .before .before .before .before .before .before .before .before .before .faces-around .ensures .0) _ (c .before .before .before .before .before .before .before .before .before .before .before .one-if .ensures .0) _ _ _ _ (c .before .before .before .before .before .before .before .moved .ensures) (c .before .before .before .before .before .before .with-left .ensures) (c .before .before .before .before .before .with-lce .ensures) (c .before .before .before .before .with-solved-left .ensures) _ (c .before .before .before .cell .ensures) _ (c .before .is-win-near .ensures) (c .if1 .left)
+returns-2 c = number-open _ _ _ _ _ _ (c .before .before .before .before .before .before .before .before .before .before .before .before .before .before .before .before .pre .0) (c .before .before .before .before .before .before .before .before .before .before .before .before .before .before .before .before .pre .1 .1 .0) (c .before .before .before .before .before .before .before .before .before .before .before .before .before .before .before .before .pre .1 .1 .1 .1 .0) (c .before .before .before .before .before .before .before .before .before .before .before .before .before .before .before .before .pre .1 .1 .1 .1 .1) (c .before .before .before .before .before .before .before .before .before .before .before .before .before .before .before .before .pre .1 .1 .1 .1 .2) _ (c .before .before .before .before .before .before .before .before .before .before .before .before .zero-beside .ensures) _ (c .before .before .before .before .before .before .before .before .before .before .before .one-if .ensures .0) _ _ _ _ (c .before .before .before .before .before .before .before .moved .ensures) (c .before .before .before .before .before .before .with-left .ensures) (c .before .before .before .before .before .with-lce .ensures) (c .before .before .before .before .with-solved-left .ensures) _ (c .before .before .before .cell .ensures) _ (c .before .is-win-near .ensures) (c .if1 .left)
 
 pub number-at-spec : {M : Type 1} → statement M
 number-at-spec =
@@ -70,7 +70,7 @@ number-at-spec =
     (tie.spec
     cast-rows
     cast-columns
-    faces-around-requires
+    zero-beside-requires
     one-if-requires
     add-left
     add-lce

@@ -23,24 +23,11 @@ returns c = lone-no-zero _ _ _ _ _ (c .before .face-at .ensures) (c .if1 .taken)
 returns-2 : tie.Need-returns-2
 returns-2 c = lone-no-mine _ _ _ _ _ (c .before .before .face-at .ensures) (c .if2 .taken)
 
-faces-around-requires : tie.Need-faces-around-requires
-faces-around-requires c κs = search needs
+zero-beside-requires : tie.Need-zero-beside-requires
+zero-beside-requires c κs = search needs
 
 returns-3 : tie.Need-returns-3
-returns-3 c = lone-number _ _ _ _ (c .before .before .before .before .before .pre .0) (cell-lt _ _ _ _ (c .before .before .before .before .before .pre .1 .0) (c .before .before .before .before .before .pre .1 .1)) _ (c .before .before .before .before .face-at .ensures) (c .before .before .before .if1 .left) (c .before .before .if2 .left) _ (c .before .faces-around .ensures .0) true (eq-eqb _ _ (c .if3 .taken))
-
-returns-4 : tie.Need-returns-4
-returns-4 c = lone-number _ _ _ _ (c .before .before .before .before .before .pre .0) (cell-lt _ _ _ _ (c .before .before .before .before .before .pre .1 .0) (c .before .before .before .before .before .pre .1 .1)) _ (c .before .before .before .before .face-at .ensures) (c .before .before .before .if1 .left) (c .before .before .if2 .left) _ (c .before .faces-around .ensures .0) false (ne-eqb _ _ (c .if3 .left))
+returns-3 c = lone-number _ _ _ _ (c .before .before .before .before .pre .0) (cell-lt _ _ _ _ (c .before .before .before .before .pre .1 .0) (c .before .before .before .before .pre .1 .1)) _ (c .before .before .before .face-at .ensures) (c .before .before .if1 .left) (c .before .if2 .left) _ (c .zero-beside .ensures)
 
 pub lone-at-spec : {M : Type 1} → statement M
-lone-at-spec =
-    tie.close
-    (tie.spec
-    mul-face-at
-    add-face-at
-    face-at-requires
-    returns
-    returns-2
-    faces-around-requires
-    returns-3
-    returns-4)
+lone-at-spec = tie.close (tie.spec mul-face-at add-face-at face-at-requires returns returns-2 zero-beside-requires returns-3)
