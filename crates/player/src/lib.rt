@@ -62,6 +62,7 @@ fn work_room() -> [u16; 16392]
     [0; 16392]
 }
 
+// The settings' line, 8,192 events, the counts and the 3BV, and 2,048 cells: 21 + 20 * 8192 + 131 + 4 * 2048.
 fn text_room() -> [u8; 172184]
     ensures { λ r. ⌜ 172184 ≡ length r ⌝ }
 {

@@ -10,9 +10,6 @@ ghost use Rattle.text.specs.Rows.{RowsFit};
 use rules::Position;
 use rules::Settings;
 
-// Room for every printout: the settings' line, 8,192 events, the counts and the 3BV, and 2,048 cells.
-pub const ROOM: usize = 21 + 20 * 8192 + 131 + 4 * 2048;
-
 // A row of the shown board.
 fn put_row(out: &mut [u8], at: usize, cells: &[u8]) -> usize
     requires { ⌜ (1 ≤ length (now cells)) × Room (lineOf (now cells)) at (now out) ⌝ }
