@@ -96,6 +96,10 @@ pushed-length R C p i (suc n) st = go (p (neighbour R C i n)) (pushed-length R C
     go true e = omega arith
     go false e = omega arith
 
+-- one cell for each place, at most
+pub pushed-height : (R C : ℕ) (p : ℕ → Bool) (i n : ℕ) (st : List ℕ) → length (pushed R C p i n st) ≤ n + length st
+pushed-height R C p i n st = let l = pushed-length R C p i n st in let m = count-le (λ k. p (neighbour R C i k)) n in omega arith
+
 -- tests that agree push the same
 pub pushed-same : (R C : ℕ) (p q : ℕ → Bool) (i n : ℕ) (st : List ℕ) → ((j : ℕ) → p j ≡ q j) → pushed R C p i n st ≡ pushed R C q i n st
 unfolding pushed

@@ -20,6 +20,10 @@ pub and-left : (a b : Bool) → (a && b) ≡ true → a ≡ true
 and-left true b e = refl
 and-left false b e = e
 
+pub false-unless : (b : Bool) → (b ≡ true → ⊥) → b ≡ false
+false-unless true n = absurd (n refl)
+false-unless false n = refl
+
 pub and-right : (a b : Bool) → (a && b) ≡ true → b ≡ true
 and-right true b e = e
 and-right false b e = absurd (false≢true e)

@@ -2,7 +2,7 @@
 use mathlib.Core.Path.{_≡_, refl, ap, sym, _∙_}
 use mathlib.Core.Bool.{Bool, true, false, false≢true}
 use mathlib.Core.List.{List, [], _∷_}
-use mathlib.Core.Logic.{inl, inr, ⊎-elim}
+use mathlib.Core.Logic.{⊎-elim}
 use Prim.Native.Nat.{ℕ, zero, suc, _+_, _*_, _<_, _≤_}
 use native.Mathlib.Omega.{arith}
 use borrow.Author.Tests.{eqb-true, eqb-false, le-leb, leb-true, ltb-true, ltb-false}
@@ -12,14 +12,14 @@ use lib.Seq.{getD-set-same, getD-set-other, ext-getD}
 use lib.IntN.{ℤ}
 use Rattle.rules.specs.declared.Settings.{Settings}
 use Rattle.rules.specs.Words.{pick, bit, rounds, stackOf}
-use Rattle.rules.specs.Grid.{neighbour, around, pushIf, pushed}
+use Rattle.rules.specs.Grid.{neighbour, around, pushed}
 use Rattle.rules.specs.Opening.{closedAt}
 use Rattle.rules.specs.Clicks.{Desk, flagAt, rowsOf, columnsOf, cellsOf}
 use Rattle.rules.specs.Passes.{ripeAt, listed, flagOne, flagAll, Round, flagRound, foundAny, flagPass}
-use Rattle.cells.proofs.Words.{and-left, and-right, count-mono, count-zero, pick-both}
+use Rattle.cells.proofs.Words.{and-left, and-right, count-mono, count-zero, pick-both, false-unless}
 use Rattle.cells.specs.Ground.{Valued, Below}
 use Rattle.opening.specs.Changed.{In}
-use Rattle.opening.proofs.Lists.{count-sum, in-pushed}
+use Rattle.opening.proofs.Lists.{count-sum, in-pushed, neighbour-pushed}
 use Rattle.opening.proofs.Cases.{closed-in}
 use Rattle.cells.specs.Stack.{Grown}
 use Rattle.flagging.specs.Listing.{Flaggable, Flags}
@@ -67,10 +67,6 @@ module _ (B : List ℤ) where
       turned-on (getD (d .shown) q 0) (getD (flagAll B st d .shown) q 0) (getD (flagOne B x (flagAll B st d) .shown) q 0) (turns-all st d q) (turns-one x (flagAll B st d) q)
 
 -- a listed cell does not show 10 afterwards
-closed-else : (a : Bool) → (a ≡ true → ⊥) → a ≡ false
-closed-else true h = absurd (h refl)
-closed-else false h = refl
-
 module _ (B : List ℤ) where
   flag-own : (c : ℕ) (d : Desk) → closedAt (flagOne B c d .shown) c ≡ false
   flag-own c d = go (closedAt (d .shown) c) refl
@@ -85,24 +81,12 @@ module _ (B : List ℤ) where
   in-flagged (x ∷ st) d q i =
       ⊎-elim
       (λ e. rw e (flag-own x (flagAll B st d)))
-      (λ j. closed-else (closedAt (flagOne B x (flagAll B st d) .shown) q)
+      (λ j. false-unless (closedAt (flagOne B x (flagAll B st d) .shown) q)
       (λ h. false≢true (sym (in-flagged st d q j) ∙ turned-closed (getD (flagAll B st d .shown) q 0) (getD (flagOne B x (flagAll B st d) .shown) q 0) (turns-one B x (flagAll B st d) q) h)))
       i
 
 module _ (R C : ℕ) where
   -- a ripe cell's closed neighbours are listed
-  neighbour-pushed : (p : ℕ → Bool) (c k : ℕ) (st : List ℕ) (j : ℕ) → j < k → p (neighbour R C c j) ≡ true → In (neighbour R C c j) (pushed R C p c k st)
-  unfolding pushed
-  neighbour-pushed p c zero st j h e = absurd (omega arith)
-  neighbour-pushed p c (suc k) st j h e = go (p (neighbour R C c k)) (eqb j k) refl refl (λ lt. neighbour-pushed p c k st j lt e)
-    where
-      go : (b d : Bool) → p (neighbour R C c k) ≡ b → eqb j k ≡ d → (j < k → In (neighbour R C c j) (pushed R C p c k st))
-          → In (neighbour R C c j) (pushIf b (neighbour R C c k) (pushed R C p c k st))
-      go true true x y rec = inl (ap (neighbour R C c) (eqb-true j k y))
-      go true false x y rec = inr (rec (let m = eqb-false j k y in omega arith))
-      go false true x y rec = absurd (false≢true (sym x ∙ (rw (eqb-true j k y) at e)))
-      go false false x y rec = rec (let m = eqb-false j k y in omega arith)
-
   neighbour-listed : (s : List ℕ) (n c j : ℕ) → c < n → ripeAt R C s c ≡ true → j < 8 → closedAt s (neighbour R C c j) ≡ true → In (neighbour R C c j) (listed R C s n)
   unfolding listed
   neighbour-listed s zero c j h r k e = absurd (omega arith)
@@ -110,7 +94,7 @@ module _ (R C : ℕ) where
     where
       go : (b d : Bool) → ripeAt R C s n ≡ b → eqb c n ≡ d → (c < n → In (neighbour R C c j) (listed R C s n))
           → In (neighbour R C c j) (pick b (pushed R C (closedAt s) n 8 (listed R C s n)) (listed R C s n))
-      go true true x y rec = rw (eqb-true c n y) (neighbour-pushed (closedAt s) n 8 (listed R C s n) j k (rw (eqb-true c n y) at e))
+      go true true x y rec = rw (eqb-true c n y) (neighbour-pushed R C (closedAt s) n 8 (listed R C s n) j k (rw (eqb-true c n y) at e))
       go true false x y rec = in-pushed R C (closedAt s) n 8 (listed R C s n) (neighbour R C c j) (rec (let m = eqb-false c n y in omega arith))
       go false true x y rec = absurd (false≢true (sym x ∙ (rw (eqb-true c n y) at r)))
       go false false x y rec = rec (let m = eqb-false c n y in omega arith)
@@ -156,7 +140,7 @@ module _ (B : List ℤ) (R C : ℕ) (d : Desk) (cells : ℕ) where
       one : (k : ℕ) → k < 8 → (b : Bool) → closedAt (d .shown) (neighbour R C c k) ≡ b → closedAt once (neighbour R C c k) ≡ false
       one k l true e = in-flagged B (listed R C (d .shown) cells) d (neighbour R C c k) (neighbour-listed R C (d .shown) cells c k h r l e)
       one k l false e =
-          closed-else (closedAt once (neighbour R C c k))
+          false-unless (closedAt once (neighbour R C c k))
           (λ y. false≢true (sym e ∙ turned-closed _ _ (turns-all B (listed R C (d .shown) cells) d (neighbour R C c k)) y))
 
   -- one that is ripe now was ripe before
@@ -172,7 +156,7 @@ module _ (B : List ℤ) (R C : ℕ) (d : Desk) (cells : ℕ) where
   unfolding listed
   second zero h = refl
   second (suc n) h =
-      rw (closed-else (ripeAt R C once n) (λ e. never n (omega arith) (ripe-parts R C once n e) (turns-all B (listed R C (d .shown) cells) d n))) (second n (omega arith))
+      rw (false-unless (ripeAt R C once n) (λ e. never n (omega arith) (ripe-parts R C once n e) (turns-all B (listed R C (d .shown) cells) d n))) (second n (omega arith))
 
   -- LAW: a scan after the flags of a scan lists nothing
   pub second-none : listed R C once cells ≡ []

@@ -10,10 +10,11 @@ use lib.ListN.{length, getD, set, length-set, length-replicate, getD-replicate}
 use lib.Seq.{getD-set-same, getD-set-other}
 use lib.IntN.{ℤ}
 use Rattle.rules.specs.Words.{pick, bit}
-use Rattle.rules.specs.Grid.{neighbour, pushIf, pushed}
+use Rattle.rules.specs.Grid.{pushed}
 use Rattle.rules.specs.Board.{faceAt}
 use Rattle.cells.proofs.Words.{bit-le}
 use Rattle.rules.specs.Judging.{freeAt, Kind, pass, stop, mark, kind, stackBy, marksBy, wholeBy, walk, unmarked}
+use Rattle.cells.proofs.Grid.{pushed-height}
 
 -- the stack, the marks and the judgement once a cell was taken off the stack
 abbrev pub stackNext : List ℤ → ℕ → ℕ → List ℕ → ℕ → List ℕ → List ℕ → List ℕ
@@ -161,15 +162,6 @@ free-set (x ∷ xs) (suc i) h e = omega (arith, free-set xs i (omega arith) e)
 
 pub free-pos : (marks : List ℕ) (q : ℕ) → freeAt marks q ≡ true → 1 ≤ freeCount marks
 free-pos marks q e = let f = free-set marks q (free-fact marks q e .0) (free-fact marks q e .1) in omega arith
-
-pushIf-height : (b : Bool) (q : ℕ) (st : List ℕ) → length (pushIf b q st) ≤ 1 + length st
-pushIf-height true q st = omega arith
-pushIf-height false q st = omega arith
-
-pub pushed-height : (R C : ℕ) (p : ℕ → Bool) (i n : ℕ) (st : List ℕ) → length (pushed R C p i n st) ≤ n + length st
-unfolding pushed
-pushed-height R C p i zero st = omega arith
-pushed-height R C p i (suc n) st = omega (arith, pushIf-height (p (neighbour R C i n)) (neighbour R C i n) (pushed R C p i n st), pushed-height R C p i n st)
 
 -- the turns that are left, and the room that is left
 pub record Cheaper (B : List ℤ) (R C : ℕ) (shown : List ℕ) (i : ℕ) (marks st : List ℕ) : Type 0 where

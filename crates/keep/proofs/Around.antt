@@ -1,11 +1,9 @@
 -- The eight neighbours of a cell are different cells, so that what is counted around a cell is counted on the board.
-use mathlib.Core.Path.{_≡_, _∙_, sym, ap, refl, subst⁻¹}
+use mathlib.Core.Path.{_≡_, _∙_, sym, ap, refl}
 use mathlib.Core.Bool.{Bool, true, false, not, _&&_, false≢true}
 use mathlib.Core.List.{List}
-use mathlib.Core.Logic.{inl, inr}
 use Prim.Native.Nat.{ℕ, zero, suc, _+_, _-_, _*_, _/_, _%_, _<_, _≤_}
 use native.Mathlib.Omega.{arith}
-use native.Mathlib.Decide.{ℕ-discrete}
 use borrow.Author.Tests.{eq-eqb, ne-eqb, leb-true, leb-false}
 use lib.Arith.{digits-div, digits-mod}
 use lib.Dec.{eqb, leb}
@@ -13,7 +11,6 @@ use Rattle.rules.specs.Words.{pick, bit, count}
 use Rattle.rules.specs.Grid.{cellOf, ninth, cellBefore, neighbour, pushIf, pushed}
 use Rattle.cells.proofs.Words.{and-left, and-right, count-same, count-change}
 use Rattle.judging.specs.Joining.{among}
-use Rattle.opening.specs.Changed.{In}
 
 -- ---- counting along a map --------------------------------------------------------------------------------------------------------------
 
@@ -121,22 +118,6 @@ neighbours-apart R C i k l h a b e =
     (let rx = x .row in let ry = y .row in let cx = x .column in let cy = y .column in omega arith)
 
 -- ---- stacks of neighbours --------------------------------------------------------------------------------------------------------------
-
--- a neighbour that passes the test is pushed
-pub pushed-in : (R C : ℕ) (p : ℕ → Bool) (i n : ℕ) (st : List ℕ) (k : ℕ) → k < n → p (neighbour R C i k) ≡ true → In (neighbour R C i k) (pushed R C p i n st)
-unfolding pushed
-pushed-in R C p i zero st k h e = absurd (omega arith)
-pushed-in R C p i (suc n) st k h e = go (ℕ-discrete k n) (λ l. pushed-in R C p i n st k l e)
-  where
-    keep : (t : Bool) → In (neighbour R C i k) (pushed R C p i n st) → In (neighbour R C i k) (pushIf t (neighbour R C i n) (pushed R C p i n st))
-    keep true j = inr j
-    keep false j = j
-
-    go : Dec (k ≡ n) → (k < n → In (neighbour R C i k) (pushed R C p i n st)) → In (neighbour R C i k) (pushIf (p (neighbour R C i n)) (neighbour R C i n) (pushed R C p i n st))
-    go (yes q) rec =
-        subst⁻¹ (λ (t : Bool). In (neighbour R C i k) (pushIf t (neighbour R C i n) (pushed R C p i n st))) (ap (λ (j : ℕ). p (neighbour R C i j)) (sym q) ∙ e)
-        (inl (ap (neighbour R C i) q))
-    go (no q) rec = keep (p (neighbour R C i n)) (rec (omega arith))
 
 -- those of the pushed neighbours that pass another test, counted
 pub among-pushed : (R C : ℕ) (p q : ℕ → Bool) (i n : ℕ) (st : List ℕ)

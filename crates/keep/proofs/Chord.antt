@@ -22,14 +22,15 @@ use Rattle.cells.specs.Ground.{Valued}
 use Rattle.cells.proofs.Words.{and-left, and-right, and-both, count-mono, count-zero}
 use Rattle.judging.specs.Joining.{among, safeAt}
 use Rattle.judging.proofs.Judging.{judged-lones-safe}
-use Rattle.opening.proofs.Lists.{count-sum, pushed-height}
+use Rattle.opening.proofs.Lists.{count-sum, neighbour-pushed}
 use Rattle.opening.proofs.Opening.{opening-length, opening-changes, opening-opens-given}
+use Rattle.cells.proofs.Grid.{pushed-height}
 use Rattle.keep.specs.Kept.{Live}
 use Rattle.keep.proofs.Counting.{shown-none}
 use Rattle.keep.proofs.Moves.{sound-in}
 use Rattle.keep.proofs.Opened.{changed-open, hit-counted, opened-sound, ended-live}
 use Rattle.keep.proofs.Left.{safe-open}
-use Rattle.keep.proofs.Around.{count-along, neighbours-apart, pushed-in, among-pushed}
+use Rattle.keep.proofs.Around.{count-along, neighbours-apart, among-pushed}
 
 among-none : (p : ℕ → Bool) → among p [] ≡ 0
 unfolding among
@@ -61,7 +62,7 @@ module _ (B : List ℤ) (R C i : ℕ) (shown : List ℕ) (v : Valued B) (long : 
       and-both _ _ (ap (λ (y : ℕ). not (isOpen y)) (eqb-true (getD shown (neighbour R C i k) 0) 10 c))
       (ap isOpen
       (opening-opens-given B R C v (neighbour R C i k) (closedAround R C shown i) shown long (let l = pushed-height R C (closedAt shown) i 8 [] in omega arith)
-      (pushed-in R C (closedAt shown) i 8 [] k h c) c)
+      (neighbour-pushed R C (closedAt shown) i 8 [] k h c) c)
       ∙ safe-open B v (neighbour R C i k) m)
 
   newly-adds : countShown isOpen shown + count newly (R * C) ≤ countShown isOpen after

@@ -15,7 +15,8 @@ use Rattle.rules.specs.Opening.{closedAt, shownAfter, stackAfter}
 use Rattle.rules.specs.Lawful.{countShown, shows}
 use Rattle.cells.specs.Ground.{Valued}
 use Rattle.cells.proofs.Words.{count-le}
-use Rattle.opening.proofs.Lists.{countShown-set, pushed-height}
+use Rattle.cells.proofs.Grid.{pushed-height}
+use Rattle.opening.proofs.Lists.{countShown-set}
 use Rattle.opening.proofs.Cases.{closed-in, shown-open, shown-shut, stack-zero, stack-number, stack-shut}
 
 value-face : (z : ℤ) → valueOk z ≡ true → (face z ≤ 8) ⊎ (face z ≡ 15)

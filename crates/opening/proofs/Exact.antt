@@ -15,9 +15,10 @@ use Rattle.rules.specs.Board.{faceAt, mineAt}
 use Rattle.rules.specs.Opening.{closedAt, shownAfter, stackAfter, hitAfter, run, turns, Opened}
 use Rattle.rules.specs.Lawful.{countShown, shows}
 use Rattle.cells.specs.Ground.{Valued}
+use Rattle.cells.proofs.Words.{false-unless}
 use Rattle.opening.specs.Changed.{In}
 use Rattle.opening.specs.Reach.{Reached, start, spread, Opens, Exact}
-use Rattle.opening.proofs.Lists.{false-unless, neighbour-pushed, all-pushed}
+use Rattle.opening.proofs.Lists.{neighbour-pushed, all-pushed}
 use Rattle.opening.proofs.Cases.{shown-open, shown-shut, stack-zero, stack-number, stack-shut, hit-mine, hit-safe, hit-shut, hit-stays}
 use Rattle.opening.proofs.Cost.{face-ne, closed-most, cheaper, length-after}
 use Rattle.opening.proofs.Opening.{after-opens, after-other, turn-opens, opens-join, in-after, run-due}

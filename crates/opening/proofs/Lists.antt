@@ -3,7 +3,7 @@ use mathlib.Core.Path.{_≡_, refl, ap, sym, _∙_}
 use mathlib.Core.Bool.{Bool, true, false, false≢true}
 use mathlib.Core.List.{List}
 use mathlib.Core.Logic.{inl, inr, ⊎-elim}
-use Prim.Native.Nat.{ℕ, zero, suc, _+_, _<_, _≤_}
+use Prim.Native.Nat.{ℕ, zero, suc, _+_, _<_}
 use native.Mathlib.Omega.{arith}
 use borrow.Author.Tests.{eqb-true, eqb-false}
 use lib.Dec.{eqb}
@@ -12,13 +12,8 @@ use lib.Seq.{getD-set-same, getD-set-other}
 use Rattle.rules.specs.Lawful.{countShown}
 use Rattle.rules.specs.Words.{bit, count}
 use Rattle.rules.specs.Grid.{neighbour, pushIf, pushed}
-use Rattle.cells.proofs.Words.{count-le, count-mono, count-change}
-use Rattle.cells.proofs.Grid.{pushed-length}
+use Rattle.cells.proofs.Words.{count-mono, count-change}
 use Rattle.opening.specs.Changed.{In}
-
-pub false-unless : (b : Bool) → (b ≡ true → ⊥) → b ≡ false
-false-unless true n = absurd (n refl)
-false-unless false n = refl
 
 -- what adds up at each place adds up
 pub count-sum : (f g f′ g′ : ℕ → Bool) (n : ℕ) → ((i : ℕ) → i < n → bit (f i) + bit (g i) ≡ bit (f′ i) + bit (g′ i)) → count f n + count g n ≡ count f′ n + count g′ n
@@ -79,9 +74,6 @@ all-pushed R C p c (suc k) st P r a x i = go (p (neighbour R C c k)) refl (λ y.
         → (y : ℕ) → In y (pushIf b (neighbour R C c k) (pushed R C p c k st)) → P y
     go true e rec y i = ⊎-elim (λ q. rw q (r k (omega arith) e)) (rec y) i
     go false e rec y i = rec y i
-
-pub pushed-height : (R C : ℕ) (p : ℕ → Bool) (c n : ℕ) (st : List ℕ) → length (pushed R C p c n st) ≤ n + length st
-pushed-height R C p c n st = let l = pushed-length R C p c n st in let m = count-le (λ k. p (neighbour R C c k)) n in omega arith
 
 -- a cell that is stored to: what was counted there, and what is now
 pub countShown-set : (f : ℕ → Bool) (shown : List ℕ) (i v : ℕ) → i < length shown → countShown f (set shown i v) + bit (f (getD shown i 0)) ≡ countShown f shown + bit (f v)

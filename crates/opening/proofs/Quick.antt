@@ -14,10 +14,10 @@ use Rattle.rules.specs.Board.{faceAt}
 use Rattle.rules.specs.Opening.{closedAt, shownAfter, hitAfter, run, turns}
 use Rattle.rules.specs.Lawful.{countShown, shows}
 use Rattle.cells.specs.Ground.{Valued}
+use Rattle.cells.proofs.Words.{false-unless}
 use Rattle.opening.specs.Changed.{In}
 use Rattle.opening.specs.Reach.{Reached, start, spread, Exact}
 use Rattle.opening.specs.Quick.{Front, front, touched, touchedAround, touchedAll, quick, quickFrom}
-use Rattle.opening.proofs.Lists.{false-unless}
 use Rattle.opening.proofs.Cases.{shown-shut}
 use Rattle.opening.proofs.Cost.{face-ne, closed-most, closed-after}
 use Rattle.opening.proofs.Opening.{after-opens, turn-opens}
