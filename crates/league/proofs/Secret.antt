@@ -1,25 +1,42 @@
--- The contracts of setup and step_flow are equations with the definitions, so demand 3 over the definitions is demand 3 over the calls.
-use mathlib.Core.Path.{_≡_, _∙_, sym, ap}
-use mathlib.Core.List.{List}
-use Prim.Native.Nat.{ℕ, _*_}
-use lib.ListN.{take}
+-- The contracts are equations with the definitions, so a row of calls is a row of quiet moves, and twins look the same. Assumes nothing.
+use mathlib.Core.Path.{_≡_, refl, sym, ap, _∙_, subst}
+use mathlib.Core.List.{List, [], _∷_}
 use lib.IntN.{ℤ}
 use Rattle.rules.specs.declared.Settings.{Settings}
-use Rattle.rules.specs.Calls.{Outcome, SetUp, setupOf, flowOf}
+use Rattle.rules.specs.Clicks.{Desk, Play, desk}
+use Rattle.rules.specs.Calls.{SetUp, setupOf, positionCheck}
 use Rattle.keep.specs.Kept.{setBy}
-use Rattle.secrecy.specs.Public.{seenOf}
-use Rattle.secrecy.proofs.Public.{flow-secrecy}
-use Rattle.league.specs.Secret.{Game, CodeDemand}
+use Rattle.secrecy.specs.Demand.{seenAll, freshStart, endOf, Twins}
+use Rattle.secrecy.proofs.Rows.{Move, rowOf, row-secrecy}
+use Rattle.league.specs.Secret.{Call, playOf, Row, none, next, Game, CodeDemand}
+use Rattle.league.proofs.Moves.{begins, start-checked, move, call-moves, call-keeps}
 
-module _ (s : Settings) (events : List ℕ) (B : List ℤ) (shown bits work : List ℕ) (n : ℕ) (o : Outcome) (g : Game s events B shown bits work n o) where
-  begins : setupOf s B shown bits .answer .number ≡ 0
-  begins = sym (ap (λ (u : SetUp). u .answer .number) (g .setup)) ∙ g .accepted
+unfoldable pub moves : List Call → List Move
+moves [] = []
+moves (call ∷ calls) = move (call .function) (call .enough) ∷ moves calls
 
-  leads : o ≡ flowOf B (take (3 * n) events) (setBy (setupOf s B shown bits)) work
-  leads = g .flow ∙ ap (λ (u : SetUp). flowOf B (take (3 * n) events) (setBy u) work) (g .setup)
+row-moves : {B : List ℤ} {d : Desk} {calls : List Call} {os : List Play} → Row B d calls os → positionCheck B d ≡ 0 → os ≡ rowOf B (moves calls) d
+unfolding rowOf moves
+row-moves none e = refl
+row-moves {B} (next {d = d} {call = call} {calls = calls} {os = os} work o w c rest) e =
+    let p = move (call .function) (call .enough) .play B d in
+    let q : playOf o ≡ p = call-moves B d work o (call .function) (call .enough) w c e in
+    ap (λ (x : Play). x ∷ os) q
+    ∙ ap (λ (l : List Play). p ∷ l) (row-moves rest (call-keeps B d work o (call .function) c e) ∙ ap (λ (x : Play). rowOf B (moves calls) (x .desk)) q)
 
+-- a game is a row of moves from a fresh start
+pub game-moves : {s : Settings} {calls : List Call} {B : List ℤ} {os : List Play} → Game s calls B os → os ≡ rowOf B (moves calls) (freshStart s)
+game-moves {s} {calls} {B} {os} g = row-moves (subst (λ (d : Desk). Row B d calls os) start (g .goes)) (start-checked s B (g .shown) (g .bits) ok)
+  where
+    ok : setupOf s B (g .shown) (g .bits) .answer .number ≡ 0
+    ok = sym (ap (λ (u : SetUp). u .answer .number) (g .setup)) ∙ g .accepted
+
+    start : desk (g .begun .position) (g .board) (g .bytes) ≡ freshStart s
+    start = ap setBy (g .setup) ∙ begins s B (g .shown) (g .bits) ok
+
+-- THE theorem for the code
 pub code-secrecy : CodeDemand
-code-secrecy s events A B shown bits work t n o q g h =
-    ap seenOf (leads s events A shown bits work n o g)
-    ∙ flow-secrecy s events A B shown bits work (begins s events A shown bits work n o g) (begins s events B shown bits work n q h) t n
-    ∙ sym (ap seenOf (leads s events B shown bits work n q h))
+code-secrecy s calls A B os ps g h tw =
+    let a = game-moves g in
+    ap seenAll a
+    ∙ (row-secrecy (moves calls) s A B (subst (λ (l : List Play). Twins s (endOf s l) A B) a tw) ∙ sym (ap seenAll (game-moves h)))

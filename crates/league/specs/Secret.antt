@@ -1,27 +1,86 @@
--- Demand 3 as what a league relies on: two games that board::setup begins and board::step_flow plays look the same.
+-- Demand 3 as what a league relies on, by the contracts of the public functions: two games that board::setup begins, and that any row of calls
+-- of board::step and board::step_flow continues, refused ones among them, look the same after every call.
 use mathlib.Core.Path.{_≡_}
-use mathlib.Core.List.{List}
-use Prim.Native.Nat.{ℕ, _*_}
-use lib.ListN.{take}
+use mathlib.Core.Bool.{Bool, true}
+use mathlib.Core.List.{List, [], _∷_}
+use Prim.Native.Nat.{ℕ, _≤_}
 use lib.IntN.{ℤ}
 use Rattle.rules.specs.declared.Settings.{Settings}
 use Rattle.rules.specs.declared.Answer.{Answer}
-use Rattle.rules.specs.Calls.{Outcome}
-use Rattle.board.specs.Promises.{SetupIs, StepFlowIs}
-use Rattle.secrecy.specs.Demand.{Twins}
-use Rattle.secrecy.specs.Public.{seenOf}
+use Rattle.rules.specs.Clicks.{Desk, Play, desk, done}
+use Rattle.rules.specs.Step.{stepOn}
+use Rattle.rules.specs.Calls.{Outcome, workFits, setupOf}
+use Rattle.keep.specs.Kept.{leftBy}
+use Rattle.board.specs.Promises.{SetupIs, StepIs, StepFlowIs}
+use Rattle.secrecy.specs.Demand.{seenAll, game, endOf, Twins}
 
--- setup accepted a board, and step_flow was called on the first n events with the memory that setup left; the outcome is o
-pub record Game (s : Settings) (events : List ℕ) (B : List ℤ) (shown bits work : List ℕ) (n : ℕ) (o : Outcome) : Type 0 where
+-- what is called: step with one event, or step_flow with a row of events
+pub data Function : Type 0 where
+  step : (code row column : ℕ) → Function
+  flow : (events : List ℕ) → Function
+
+-- a call, and whether the work that it is lent is long enough
+pub record Call : Type 0 where
+  pub function : Function
+  pub enough : Bool
+
+-- what the contract says of a function that is called at a desk and lent this work: o is its outcome
+abbrev pub CallIs : Function → List ℤ → Desk → List ℕ → Outcome → Type 0
+CallIs (step code row column) B d work o =
+    StepIs (d .position) code row column B (d .shown) (d .bits) work (o .answer) (o .shown) (o .bits) (o .work)
+CallIs (flow events) B d work o =
+    StepFlowIs (d .position) events B (d .shown) (d .bits) work (o .answer) (o .shown) (o .bits) (o .work)
+
+-- an outcome as a play: its number, with the desk that is left
+abbrev pub playOf : Outcome → Play
+playOf o = done (o .answer .number) (leftBy o)
+
+-- a row of calls, each at the desk that the one before left, accepted or refused, and with work of its own; the plays are what they left
+pub data Row (B : List ℤ) : Desk → List Call → List Play → Type 0 where
+  none : {d : Desk} → Row B d [] []
+  next : {d : Desk} {call : Call} {calls : List Call} {os : List Play} (work : List ℕ) (o : Outcome)
+      → workFits (d .position .settings) work ≡ call .enough
+      → CallIs (call .function) B d work o
+      → Row B (leftBy o) calls os
+      → Row B d (call ∷ calls) (playOf o ∷ os)
+
+-- setup accepted a board, whatever stood in the shown board and the bits that it was lent, and the calls were made; os is what they left
+pub record Game (s : Settings) (calls : List Call) (B : List ℤ) (os : List Play) : Type 0 where
+  pub shown : List ℕ
+  pub bits : List ℕ
   pub begun : Answer
   pub board : List ℕ
   pub bytes : List ℕ
   pub setup : SetupIs s B shown bits begun board bytes
   pub accepted : begun .number ≡ 0
-  pub flow : StepFlowIs (begun .position) (take (3 * n) events) B board bytes work (o .answer) (o .shown) (o .bits) (o .work)
+  pub goes : Row B (desk (begun .position) board bytes) calls os
 
--- two such games on twin boards show the same answer or refusal, shown board, states and counts, after every number of events
+-- two games of the same calls on twin boards, each with memory of its own, show the same answer or refusal, shown board, states and counts
+-- after every call
 abbrev pub CodeDemand : Type 0
 CodeDemand =
-    (s : Settings) (events : List ℕ) (A B : List ℤ) (shown bits work : List ℕ) → Twins s events A B → (n : ℕ) (o q : Outcome)
-    → Game s events A shown bits work n o → Game s events B shown bits work n q → seenOf o ≡ seenOf q
+    (s : Settings) (calls : List Call) (A B : List ℤ) (os ps : List Play) → Game s calls A os → Game s calls B ps → Twins s (endOf s os) A B
+    → seenAll os ≡ seenAll ps
+
+-- ---- the games themselves --------------------------------------------------------------------------------------------------------------
+
+-- every row of calls can be made on every board that setup accepts
+abbrev pub Playable : Type 0
+Playable =
+    (s : Settings) (calls : List Call) (B : List ℤ) (shown bits : List ℕ) → setupOf s B shown bits .answer .number ≡ 0
+    → (os : List Play) × Game s calls B os
+
+-- step called once an event, each time lent enough work
+unfoldable pub stepsOf : List ℕ → List Call
+stepsOf [] = []
+stepsOf (code ∷ []) = []
+stepsOf (code ∷ r ∷ []) = []
+stepsOf (code ∷ r ∷ c ∷ es) = record { function = step code r c; enough = true } ∷ stepsOf es
+
+-- these calls leave the plays of the demand's own game
+abbrev pub StepsPlay : Type 0
+StepsPlay = (s : Settings) (events : List ℕ) (B : List ℤ) (os : List Play) → Game s (stepsOf events) B os → os ≡ game s events B
+
+-- where a refused event leaves the desk as it was
+abbrev pub RefusedStays : Type 0
+RefusedStays = (B : List ℤ) (code r c : ℕ) (d : Desk) → 20 ≤ stepOn B code r c d .answer → stepOn B code r c d .desk ≡ d

@@ -3,8 +3,8 @@ pub mod Quiet
 pub mod Opens
 pub mod Hands
 pub mod Events
+pub mod Rows
 pub mod Secrecy
 pub mod Games
 pub mod Witness
 pub mod Needed
-pub mod Public

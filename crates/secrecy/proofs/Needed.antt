@@ -1,4 +1,4 @@
--- Each hypothesis of the demand is needed: five games of two to four cells. Assumes nothing.
+-- Each hypothesis of the demand is needed, at the end of the game that goes on: six games of two to four cells. Assumes nothing.
 use mathlib.Core.Path.{_≡_, refl, sym, ap, _∙_}
 use mathlib.Core.List.{List}
 use Prim.Native.Nat.{ℕ}
@@ -6,14 +6,15 @@ use native.Mathlib.Omega.{arith}
 use lib.IntN.{ℤ}
 use Rattle.rules.specs.declared.Settings.{Settings}
 use Rattle.rules.specs.Words.{count, every}
-use Rattle.secrecy.specs.Demand.{SameMines, AgreeOpen, AgreeWrong, AgreeHit, AgreeFlag}
+use Rattle.rules.specs.Clicks.{Play}
+use Rattle.secrecy.specs.Demand.{endOf, SameMines, AgreeOpen, AgreeWrong, AgreeHit, AgreeFlag, Twins}
 use Rattle.secrecy.specs.Needed.{NotEnough, Needed}
 use Rattle.secrecy.proofs.Games.{last-seen, Pair, open-agree, agree-at, no-hit, games}
 
 -- a pair that is told apart by what is seen last
-not-enough : (s : Settings) (events : List ℕ) (A B : List ℤ) (shown : List ℕ) (a b : ℕ) → Pair s events A B shown a b
-    → (Met : Settings → List ℕ → List ℤ → List ℤ → Type 0) → Met s events A B → (a ≡ b → ⊥) → NotEnough Met
-not-enough s events A B shown a b c Met m n = record {
+not-enough : {ending : Settings → List ℕ → List ℤ → List Play} {s : Settings} {events : List ℕ} {A B : List ℤ} {shown : List ℕ} {a b : ℕ}
+    → Pair ending s events A B shown a b → (Met : Settings → List ℕ → List ℤ → List ℤ → Type 0) → Met s (endOf s (ending s events A)) A B → (a ≡ b → ⊥) → NotEnough ending Met
+not-enough {s = s} {events = events} {A = A} {B = B} c Met m n = record {
   s = s;
   events = events;
   A = A;
@@ -32,20 +33,31 @@ needed =
     let h = games .hit in
     let w = games .wrong in
     let f = games .flag in
+    let r = games .refused in
     record {
       mines =
-          not-enough _ _ _ _ _ _ _ m (λ s e A B. AgreeOpen s e A B × AgreeWrong s e A B × AgreeHit s e A B × AgreeFlag s e A B)
-          (open-agree _ _ _ _ _ _ _ m refl, agree-at _ _ _ _ _ _ _ m 14 refl, agree-at _ _ _ _ _ _ _ m 15 refl, no-hit _ _ _ _ _ _ _ m refl) (λ e. omega arith);
+          not-enough m (λ s e A B. AgreeOpen s e A B × AgreeWrong s e A B × AgreeHit s e A B × AgreeFlag s e A B)
+          (open-agree m refl, agree-at m 14 refl, agree-at m 15 refl, no-hit m refl) (λ e. omega arith);
       opens =
-          not-enough _ _ _ _ _ _ _ o (λ s e A B. SameMines s e A B × AgreeWrong s e A B × AgreeHit s e A B × AgreeFlag s e A B)
-          (refl, agree-at _ _ _ _ _ _ _ o 14 refl, agree-at _ _ _ _ _ _ _ o 15 refl, no-hit _ _ _ _ _ _ _ o refl) (λ e. omega arith);
+          not-enough o (λ s e A B. SameMines s e A B × AgreeWrong s e A B × AgreeHit s e A B × AgreeFlag s e A B)
+          (refl, agree-at o 14 refl, agree-at o 15 refl, no-hit o refl) (λ e. omega arith);
       wrong =
-          not-enough _ _ _ _ _ _ _ w (λ s e A B. SameMines s e A B × AgreeOpen s e A B × AgreeHit s e A B × AgreeFlag s e A B)
-          (refl, open-agree _ _ _ _ _ _ _ w refl, agree-at _ _ _ _ _ _ _ w 15 refl, (λ k l q. agree-at _ _ _ _ _ _ _ w 11 refl)) (λ e. omega arith);
+          not-enough w (λ s e A B. SameMines s e A B × AgreeOpen s e A B × AgreeHit s e A B × AgreeFlag s e A B)
+          (refl, open-agree w refl, agree-at w 15 refl, (λ k l q. agree-at w 11 refl)) (λ e. omega arith);
       hits =
-          not-enough _ _ _ _ _ _ _ h (λ s e A B. SameMines s e A B × AgreeOpen s e A B × AgreeWrong s e A B × AgreeFlag s e A B)
-          (refl, open-agree _ _ _ _ _ _ _ h refl, agree-at _ _ _ _ _ _ _ h 14 refl, (λ k l q. agree-at _ _ _ _ _ _ _ h 11 refl)) (λ e. omega arith);
+          not-enough h (λ s e A B. SameMines s e A B × AgreeOpen s e A B × AgreeWrong s e A B × AgreeFlag s e A B)
+          (refl, open-agree h refl, agree-at h 14 refl, (λ k l q. agree-at h 11 refl)) (λ e. omega arith);
       flags =
-          not-enough _ _ _ _ _ _ _ f (λ s e A B. SameMines s e A B × AgreeOpen s e A B × AgreeWrong s e A B × AgreeHit s e A B)
-          (refl, open-agree _ _ _ _ _ _ _ f refl, agree-at _ _ _ _ _ _ _ f 14 refl, agree-at _ _ _ _ _ _ _ f 15 refl) (λ e. omega arith);
+          not-enough f (λ s e A B. SameMines s e A B × AgreeOpen s e A B × AgreeWrong s e A B × AgreeHit s e A B)
+          (refl, open-agree f refl, agree-at f 14 refl, agree-at f 15 refl) (λ e. omega arith);
+      onward =
+          not-enough r Twins (record {
+            first = r .first;
+            second = r .second;
+            mines = refl;
+            opens = open-agree r refl;
+            wrong = agree-at r 14 refl;
+            hits = agree-at r 15 refl;
+            flags = no-hit r refl;
+          }) (λ e. omega arith);
     }

@@ -1,19 +1,20 @@
--- The hypotheses of the demand are met by games, and what the demand leaves out differs between them: rce, a bit and both solved counts.
+-- The hypotheses of the demand are met by games, refused events among them; and what the demand leaves out differs: rce, a bit and both solved
+-- counts.
 -- Assumes nothing.
 use mathlib.Core.Path.{_≡_, refl, sym, ap, _∙_}
-use mathlib.Core.List.{List}
+use mathlib.Core.List.{List, [], _∷_}
 use Prim.Native.Nat.{ℕ}
 use native.Mathlib.Omega.{arith}
 use lib.ListN.{getD}
 use Rattle.rules.specs.declared.Secrets.{Secrets}
 use Rattle.rules.specs.Words.{count, every}
-use Rattle.secrecy.specs.Demand.{seenAll, game, Twins}
-use Rattle.secrecy.specs.Witness.{line, playedA, playedB, playedEvents, lostA, lostB, lostEvents, end, Differ}
+use Rattle.secrecy.specs.Demand.{seenAll, game, stopped, endOf, Twins}
+use Rattle.secrecy.specs.Witness.{line, playedA, playedB, playedEvents, lostA, lostB, lostEvents, onwardA, onwardB, onwardEvents, heard, end, Differ}
 use Rattle.secrecy.proofs.Secrecy.{secrecy}
 use Rattle.secrecy.proofs.Games.{open-agree, agree-at, no-hit, games}
 
 -- the hypotheses are met by a game still played
-pub played-twins : Twins (line 16) playedEvents playedA playedB
+pub played-twins : Twins (line 16) (endOf (line 16) (game (line 16) playedEvents playedA)) playedA playedB
 unfolding count every
 played-twins =
     let g = games .played in
@@ -21,14 +22,14 @@ played-twins =
       first = g .first;
       second = g .second;
       mines = refl;
-      opens = open-agree _ _ _ _ _ _ _ g refl;
-      wrong = agree-at _ _ _ _ _ _ _ g 14 refl;
-      hits = agree-at _ _ _ _ _ _ _ g 15 refl;
-      flags = no-hit _ _ _ _ _ _ _ g refl;
+      opens = open-agree g refl;
+      wrong = agree-at g 14 refl;
+      hits = agree-at g 15 refl;
+      flags = no-hit g refl;
     }
 
--- and by a lost one
-pub lost-twins : Twins (line 10) lostEvents lostA lostB
+-- by a lost one
+pub lost-twins : Twins (line 10) (endOf (line 10) (game (line 10) lostEvents lostA)) lostA lostB
 unfolding count every
 lost-twins =
     let g = games .lost in
@@ -36,11 +37,32 @@ lost-twins =
       first = g .first;
       second = g .second;
       mines = refl;
-      opens = open-agree _ _ _ _ _ _ _ g refl;
-      wrong = agree-at _ _ _ _ _ _ _ g 14 refl;
-      hits = agree-at _ _ _ _ _ _ _ g 15 refl;
-      flags = λ k l e. agree-at _ _ _ _ _ _ _ g 11 refl;
+      opens = open-agree g refl;
+      wrong = agree-at g 14 refl;
+      hits = agree-at g 15 refl;
+      flags = λ k l e. agree-at g 11 refl;
     }
+
+-- and by one that goes on after refused events: a number is opened and a flag set after them
+pub onward-twins : Twins (line 5) (endOf (line 5) (game (line 5) onwardEvents onwardA)) onwardA onwardB
+unfolding count every
+onward-twins =
+    let g = games .onward in
+    record {
+      first = g .first;
+      second = g .second;
+      mines = refl;
+      opens = open-agree g refl;
+      wrong = agree-at g 14 refl;
+      hits = agree-at g 15 refl;
+      flags = no-hit g refl;
+    }
+
+pub onward-heard : heard (game (line 5) onwardEvents onwardA) ≡ 0 ∷ 32 ∷ 2 ∷ 33 ∷ 30 ∷ 1 ∷ 0 ∷ []
+onward-heard = games .heard .game
+
+pub stopped-heard : heard (stopped (line 5) onwardEvents onwardA) ≡ 0 ∷ 32 ∷ []
+stopped-heard = games .heard .stopped
 
 -- what is seen of them is the same
 pub played-seen : seenAll (game (line 16) playedEvents playedA) ≡ seenAll (game (line 16) playedEvents playedB)
@@ -48,6 +70,9 @@ played-seen = secrecy (line 16) playedEvents playedA playedB played-twins
 
 pub lost-seen : seenAll (game (line 10) lostEvents lostA) ≡ seenAll (game (line 10) lostEvents lostB)
 lost-seen = secrecy (line 10) lostEvents lostA lostB lost-twins
+
+pub onward-seen : seenAll (game (line 5) onwardEvents onwardA) ≡ seenAll (game (line 5) onwardEvents onwardB)
+onward-seen = secrecy (line 5) onwardEvents onwardA onwardB onward-twins
 
 -- what is not promised differs
 pub played-differ : Differ (end (line 16) playedEvents playedA) (end (line 16) playedEvents playedB)

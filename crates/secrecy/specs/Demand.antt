@@ -13,8 +13,11 @@ use Rattle.rules.specs.Words.{count}
 use Rattle.rules.specs.States.{freshOf}
 use Rattle.rules.specs.Board.{faceAt, mineAt, boardCheck}
 use Rattle.rules.specs.Lent.{bitBytes}
-use Rattle.rules.specs.Clicks.{Desk, Play, desk, done}
-use Rattle.rules.specs.Calls.{plays, lastPlay, cellsIn}
+use Rattle.rules.specs.Clicks.{Desk, Play, desk}
+use Rattle.rules.specs.Step.{stepOn}
+use Rattle.rules.specs.Calls.{plays, cellsIn}
+
+-- ---- what is seen ----------------------------------------------------------------------------------------------------------------------
 
 -- what is seen of a play: its answer or refusal, the shown board, the states, and the counts left, right, double, lce, dce and flag
 pub record Seen : Type 0 where
@@ -33,30 +36,51 @@ seen o = record {
   counts = o .desk .position .counts;
 }
 
--- what is seen after each event, in order
+-- what is seen after each play, in order
 unfoldable pub seenAll : List Play → List Seen
 seenAll [] = []
 seenAll (o ∷ os) = seen o ∷ seenAll os
+
+-- ---- a game ----------------------------------------------------------------------------------------------------------------------------
 
 -- a fresh start: every shown cell 10, every bit and count 0
 abbrev pub freshStart : Settings → Desk
 freshStart s = desk (freshOf s) (replicate (cellsIn s) 10) (replicate (bitBytes (cellsIn s)) 0)
 
--- a game: its plays, one an event, up to the first refused one
-abbrev pub game : Settings → List ℕ → List ℤ → List Play
-game s events B = plays B events (freshStart s)
+-- the plays of a row of events, three bytes each: a refused event gives its number and leaves the desk, and the next one is played on it
+unfoldable pub playsOn : List ℤ → List ℕ → Desk → List Play
+playsOn B [] d = []
+playsOn B (code ∷ []) d = []
+playsOn B (code ∷ r ∷ []) d = []
+playsOn B (code ∷ r ∷ c ∷ es) d =
+    let o = stepOn B code r c d in
+    o ∷ playsOn B es (o .desk)
 
--- what cell i shows at the end of a game
-abbrev pub endsAt : Settings → List ℕ → List ℤ → ℕ → ℕ
-endsAt s events B i = getD (lastPlay (done 0 (freshStart s)) (game s events B) .desk .shown) i 0
+-- a game goes on after a refused event; one that is stopped ends with it
+abbrev pub game : Settings → List ℕ → List ℤ → List Play
+game s events B = playsOn B events (freshStart s)
+
+abbrev pub stopped : Settings → List ℕ → List ℤ → List Play
+stopped s events B = plays B events (freshStart s)
+
+-- the last desk of a row of plays, or the one that it began with
+unfoldable pub lastDesk : Desk → List Play → Desk
+lastDesk d [] = d
+lastDesk d (o ∷ os) = lastDesk (o .desk) os
+
+-- what is shown at the end of a game
+abbrev pub endOf : Settings → List Play → List ℕ
+endOf s os = lastDesk (freshStart s) os .shown
+
+-- ---- twins: `end` is what is shown at the end of the first game ------------------------------------------------------------------------
 
 -- equally many mines
 abbrev pub SameMines : Settings → List ℕ → List ℤ → List ℤ → Type 0
-SameMines s events A B = count (mineAt A) (cellsIn s) ≡ count (mineAt B) (cellsIn s)
+SameMines s end A B = count (mineAt A) (cellsIn s) ≡ count (mineAt B) (cellsIn s)
 
--- the boards agree at every cell that shows such a value at the end of the first game
+-- the boards agree at every cell that shows such a value at the end
 abbrev pub AgreeWhere : (ℕ → Type 0) → Settings → List ℕ → List ℤ → List ℤ → Type 0
-AgreeWhere P s events A B = (i : ℕ) → i < cellsIn s → P (endsAt s events A i) → faceAt A i ≡ faceAt B i
+AgreeWhere P s end A B = (i : ℕ) → i < cellsIn s → P (getD end i 0) → faceAt A i ≡ faceAt B i
 
 -- the boards agree at 0 to 8, at 14, at 15, and at 11 if any cell shows 15
 abbrev pub AgreeOpen : Settings → List ℕ → List ℤ → List ℤ → Type 0
@@ -69,20 +93,29 @@ abbrev pub AgreeHit : Settings → List ℕ → List ℤ → List ℤ → Type 0
 AgreeHit = AgreeWhere (λ x. x ≡ 15)
 
 abbrev pub AgreeFlag : Settings → List ℕ → List ℤ → List ℤ → Type 0
-AgreeFlag s events A B = (k : ℕ) → k < cellsIn s → endsAt s events A k ≡ 15 → AgreeWhere (λ x. x ≡ 11) s events A B
+AgreeFlag s end A B = (k : ℕ) → k < cellsIn s → getD end k 0 ≡ 15 → AgreeWhere (λ x. x ≡ 11) s end A B
 
 -- two accepted boards of one size with equally many mines; they agree at every cell that shows 0 to 8, 14 or 15 at the end of the first
 -- game, and also at every cell showing 11 if any shows 15
-pub record Twins (s : Settings) (events : List ℕ) (A B : List ℤ) : Type 0 where
+pub record Twins (s : Settings) (end : List ℕ) (A B : List ℤ) : Type 0 where
   pub first : boardCheck (s .rows) (s .columns) A ≡ 0
   pub second : boardCheck (s .rows) (s .columns) B ≡ 0
-  pub mines : SameMines s events A B
-  pub opens : AgreeOpen s events A B
-  pub wrong : AgreeWrong s events A B
-  pub hits : AgreeHit s events A B
-  pub flags : AgreeFlag s events A B
+  pub mines : SameMines s end A B
+  pub opens : AgreeOpen s end A B
+  pub wrong : AgreeWrong s end A B
+  pub hits : AgreeHit s end A B
+  pub flags : AgreeFlag s end A B
 
--- THE demand: after every event both games give the same answer or refusal, shown board, game and mouse state and counts;
--- in every mode, with question marks on or off, whatever the events are
+-- ---- the demand ------------------------------------------------------------------------------------------------------------------------
+
+-- THE demand: after every event, refused ones too, both games give the same answer or refusal, shown board, game and mouse state and
+-- counts; in every mode, with question marks on or off, whatever the events are
 abbrev pub Demand : Type 0
-Demand = (s : Settings) (events : List ℕ) (A B : List ℤ) → Twins s events A B → seenAll (game s events A) ≡ seenAll (game s events B)
+Demand =
+    (s : Settings) (events : List ℕ) (A B : List ℤ) → Twins s (endOf s (game s events A)) A B → seenAll (game s events A) ≡ seenAll (game s events B)
+
+-- the same of games that are stopped, as a book's is
+abbrev pub StoppedDemand : Type 0
+StoppedDemand =
+    (s : Settings) (events : List ℕ) (A B : List ℤ) → Twins s (endOf s (stopped s events A)) A B
+    → seenAll (stopped s events A) ≡ seenAll (stopped s events B)

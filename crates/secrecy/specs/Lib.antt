@@ -1,4 +1,3 @@
 pub mod Demand
-pub mod Public
 pub mod Witness
 pub mod Needed

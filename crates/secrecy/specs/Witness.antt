@@ -1,14 +1,13 @@
--- Two pairs of games that meet the hypotheses of the demand, with a hidden mine in different places: one still played, one lost.
--- proofs/Witness.antt computes them.
+-- Three pairs of games that meet the hypotheses of the demand, with a hidden mine in different places: one still played, one lost, one that
+-- goes on after refused events. proofs/Witness.antt computes them.
 use mathlib.Core.Path.{_≡_}
 use mathlib.Core.Bool.{false}
 use mathlib.Core.List.{List, [], _∷_}
 use Prim.Native.Nat.{ℕ}
 use lib.IntN.{ℤ, pos, negsuc}
 use Rattle.rules.specs.declared.Settings.{Settings}
-use Rattle.rules.specs.Clicks.{Desk, done}
-use Rattle.rules.specs.Calls.{lastPlay}
-use Rattle.secrecy.specs.Demand.{freshStart, game}
+use Rattle.rules.specs.Clicks.{Desk, Play}
+use Rattle.secrecy.specs.Demand.{freshStart, game, lastDesk}
 
 -- one row in mode 0, question marks off
 abbrev pub line : ℕ → Settings
@@ -49,9 +48,25 @@ lostB = pos 1 ∷ mine ∷ pos 2 ∷ mine ∷ pos 1 ∷ pos 0 ∷ pos 0 ∷ pos 
 abbrev pub lostEvents : List ℕ
 lostEvents = flags 1 (flags 4 (opens 2 (opens 3 [])))
 
+-- mines at 1, 3, and at 1, 4; both end as 1 11 10 10 10
+abbrev pub onwardA : List ℤ
+onwardA = pos 1 ∷ mine ∷ pos 2 ∷ mine ∷ pos 1 ∷ []
+
+abbrev pub onwardB : List ℤ
+onwardB = pos 1 ∷ mine ∷ pos 1 ∷ pos 1 ∷ mine ∷ []
+
+-- lc; pf off the board, refused with 32; lr; pf while Playing, with 33; mv neither on a cell nor off the board, with 30; a flag
+abbrev pub onwardEvents : List ℕ
+onwardEvents = 0 ∷ 0 ∷ 0 ∷ 8 ∷ 1 ∷ 5 ∷ 1 ∷ 0 ∷ 0 ∷ 8 ∷ 0 ∷ 2 ∷ 4 ∷ 0 ∷ 5 ∷ flags 1 []
+
+-- the answers and refusals of a row of plays
+unfoldable pub heard : List Play → List ℕ
+heard [] = []
+heard (o ∷ os) = o .answer ∷ heard os
+
 -- the desk that a game ends with
 abbrev pub end : Settings → List ℕ → List ℤ → Desk
-end s events B = lastPlay (done 0 (freshStart s)) (game s events B) .desk
+end s events B = lastDesk (freshStart s) (game s events B)
 
 -- what the demand does not promise, and why it is shown only after the game: rce, both solved counts and the bits can differ
 pub record Differ (d e : Desk) : Type 0 where

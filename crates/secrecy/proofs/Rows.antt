@@ -1,0 +1,151 @@
+-- Whatever is played in a row from a fresh start, twins run alike if each move is quiet: by induction from the end. Assumes nothing.
+use mathlib.Core.Path.{_≡_, refl, sym, ap, _∙_, subst}
+use mathlib.Core.Logic.{_⊎_, inl, inr}
+use mathlib.Core.List.{List, [], _∷_}
+use mathlib.Core.Bool.{Bool, true, false, false≢true}
+use Prim.Native.Nat.{ℕ, _*_, _<_}
+use native.Mathlib.Omega.{arith}
+use lib.ListN.{getD, length, replicate, length-replicate, getD-replicate, List·getD-eq-default}
+use lib.IntN.{ℤ, pos}
+use lib.Dec.{ltb, eqb}
+use borrow.Author.Tests.{eqb-true, ltb-true, ltb-false}
+use Rattle.rules.specs.declared.Settings.{Settings}
+use Rattle.rules.specs.Words.{count}
+use Rattle.rules.specs.Board.{face, faceAt, mineAt, boardCheck}
+use Rattle.rules.specs.Clicks.{Desk, Play}
+use Rattle.rules.specs.Calls.{cellsIn}
+use Rattle.cells.specs.Ground.{Valued}
+use Rattle.cells.proofs.Face.{values-valued}
+use Rattle.keep.proofs.Lawful.{board-accepted}
+use Rattle.secrecy.specs.Demand.{Seen, seen, seenAll, freshStart, lastDesk, endOf, Twins}
+use Rattle.secrecy.proofs.Lists.{entry-in}
+use Rattle.secrecy.proofs.Quiet.{bare, over, hiddenOf, aPlay, number, wrong, hit, flag, lostIn, Two, KnownIn, InvIn, AgreeIn, Quiet}
+
+-- ---- a row of moves ----------------------------------------------------------------------------------------------------------------------
+
+-- what is played at a desk, and is quiet at every desk
+pub record Move : Type 0 where
+  pub play : List ℤ → Desk → Play
+  pub quiet : (d : Desk) → Quiet aPlay (lostIn d) (d .shown) (λ B h. play B (over d h))
+
+-- each move is made on the desk that the one before left
+unfoldable pub rowOf : List ℤ → List Move → Desk → List Play
+rowOf B [] d = []
+rowOf B (m ∷ ms) d =
+    let o = m .play B d in
+    o ∷ rowOf B ms (o .desk)
+
+module _ (B : List ℤ) (v : Valued B) where
+  move-keeps : (m : Move) (d : Desk) → InvIn B d → InvIn B (m .play B d .desk)
+  move-keeps m d = m .quiet d .keeps B (hiddenOf d) v
+
+  -- what is known stays known to the end, and the end is in order
+  row-knows : (ms : List Move) (d : Desk) → InvIn B d → (j : ℕ) → KnownIn j d → KnownIn j (lastDesk d (rowOf B ms d))
+  unfolding rowOf lastDesk
+  row-knows [] d inv j k = k
+  row-knows (m ∷ ms) d inv j k = row-knows ms (m .play B d .desk) (move-keeps m d inv) j (m .quiet d .knows B (hiddenOf d) v inv j k)
+
+  row-keeps : (ms : List Move) (d : Desk) → InvIn B d → InvIn B (lastDesk d (rowOf B ms d))
+  unfolding rowOf lastDesk
+  row-keeps [] d inv = inv
+  row-keeps (m ∷ ms) d inv = row-keeps ms (m .play B d .desk) (move-keeps m d inv)
+
+module _ (A B : List ℤ) (two : Two A B) where
+  move-same : (m : Move) (d e : Desk) → over d bare ≡ over e bare → InvIn A d → InvIn B e → AgreeIn A B (m .play A d .desk)
+      → aPlay .put (m .play A d) bare ≡ aPlay .put (m .play B e) bare
+  move-same m d e q ia ib agree =
+      let ib′ : InvIn B d = subst (InvIn B) (sym q) ib in
+      let e′ : over d (hiddenOf e) ≡ e = ap (λ (x : Desk). over x (hiddenOf e)) q in
+      m .quiet d .same A B (hiddenOf d) (hiddenOf e) two ia ib′ agree ∙ ap (λ (x : Desk). aPlay .put (m .play B x) bare) e′
+
+  row-same : (ms : List Move) (d e : Desk) → over d bare ≡ over e bare → InvIn A d → InvIn B e → AgreeIn A B (lastDesk d (rowOf A ms d))
+      → seenAll (rowOf A ms d) ≡ seenAll (rowOf B ms e)
+  unfolding rowOf lastDesk seenAll
+  row-same [] d e q ia ib agree = refl
+  row-same (m ∷ ms) d e q ia ib agree =
+      let o = m .play A d in
+      let p = m .play B e in
+      let ja = move-keeps A (two .valuedA) m d ia in
+      let jb = move-keeps B (two .valuedB) m e ib in
+      let one : aPlay .put o bare ≡ aPlay .put p bare = move-same m d e q ia ib (λ j k. agree j (row-knows A (two .valuedA) ms (o .desk) ja j k)) in
+      ap (λ (x : Play). seen x ∷ seenAll (rowOf A ms (o .desk))) one
+      ∙ ap (λ (l : List Seen). seen p ∷ l) (row-same ms (o .desk) (p .desk) (ap (λ (x : Play). x .desk) one) ja jb agree)
+
+-- ---- the fresh start ---------------------------------------------------------------------------------------------------------------------
+
+-- what the board check accepts
+checked : (R C : ℕ) (B : List ℤ) → boardCheck R C B ≡ 0 → (length B ≡ R * C) × Valued B
+unfolding boardCheck
+checked R C B e = let a = board-accepted R C (eqb (length B) (R * C)) B e in (eqb-true (length B) (R * C) (a .fits), values-valued B (a .values))
+
+-- an index is on the board, or the board reads 0 there
+on-board : (B : List ℤ) (j : ℕ) → (j < length B) ⊎ (faceAt B j ≡ 0)
+on-board B j = go (ltb j (length B)) refl
+  where
+    go : (b : Bool) → ltb j (length B) ≡ b → (j < length B) ⊎ (faceAt B j ≡ 0)
+    go true e = inl (ltb-true j (length B) e)
+    go false e = inr (ap face (List·getD-eq-default B (pos 0) {n = j} (ltb-false j (length B) e)))
+
+-- nothing is open at a fresh start
+fresh-inv : (s : Settings) (B : List ℤ) → length B ≡ cellsIn s → InvIn B (freshStart s)
+fresh-inv s B e = record {
+  long = length-replicate (cellsIn s) 10 ∙ sym e;
+  safe = λ j l. go j l (on-board B j);
+  struck = λ t. absurd (false≢true t);
+}
+  where
+    go : (j : ℕ) → getD (replicate {A = ℕ} (cellsIn s) 10) j 0 < 10 → (j < length B) ⊎ (faceAt B j ≡ 0) → mineAt B j ≡ false
+    go j l (inl h) = let z = getD-replicate {A = ℕ} (cellsIn s) j 10 0 (rw e at h) in absurd (omega arith)
+    go j l (inr z) = rw z
+
+-- ---- twins -------------------------------------------------------------------------------------------------------------------------------
+
+-- boards of one size agree off the board
+off-board : (A B : List ℤ) (j : ℕ) → length A ≡ length B → (j < length A → faceAt A j ≡ faceAt B j) → faceAt A j ≡ faceAt B j
+off-board A B j e f = go (on-board A j) (on-board B j)
+  where
+    go : (j < length A) ⊎ (faceAt A j ≡ 0) → (j < length B) ⊎ (faceAt B j ≡ 0) → faceAt A j ≡ faceAt B j
+    go (inl l) q = f l
+    go (inr z) (inl l) = f (rw e l)
+    go (inr z) (inr w) = z ∙ sym w
+
+-- twins cannot be told apart by quiet moves
+pub row-secrecy : (ms : List Move) (s : Settings) (A B : List ℤ) → Twins s (endOf s (rowOf A ms (freshStart s))) A B
+    → seenAll (rowOf A ms (freshStart s)) ≡ seenAll (rowOf B ms (freshStart s))
+row-secrecy ms s A B tw = row-same A B two ms (freshStart s) (freshStart s) refl ia (fresh-inv s B (b .0)) agree
+  where
+    a : (length A ≡ cellsIn s) × Valued A
+    a = checked (s .rows) (s .columns) A (tw .first)
+
+    b : (length B ≡ cellsIn s) × Valued B
+    b = checked (s .rows) (s .columns) B (tw .second)
+
+    two : Two A B
+    two = record {
+      valuedA = a .1;
+      valuedB = b .1;
+      size = a .0 ∙ sym (b .0);
+      mines = ap (count (mineAt A)) (a .0) ∙ (tw .mines ∙ ap (count (mineAt B)) (sym (b .0)));
+    }
+
+    ia : InvIn A (freshStart s)
+    ia = fresh-inv s A (a .0)
+
+    end : Desk
+    end = lastDesk (freshStart s) (rowOf A ms (freshStart s))
+
+    order : InvIn A end
+    order = row-keeps A (a .1) ms (freshStart s) ia
+
+    -- a hit mine is on the board
+    hit-cell : (k : ℕ) → getD (end .shown) k 0 ≡ 15 → k < cellsIn s
+    hit-cell k e = rw (order .long ∙ a .0) at (entry-in (end .shown) k (omega arith))
+
+    known-same : (j : ℕ) → j < cellsIn s → KnownIn j end → faceAt A j ≡ faceAt B j
+    known-same j l (number k) = tw .opens j l k
+    known-same j l (wrong k) = tw .wrong j l k
+    known-same j l (hit k) = tw .hits j l k
+    known-same j l (flag t k) = let w = order .struck t in tw .flags (w .0) (hit-cell (w .0) (w .1)) (w .1) j l k
+
+    agree : AgreeIn A B end
+    agree j k = off-board A B j (two .size) (λ l. known-same j (rw (a .0) at l) k)
