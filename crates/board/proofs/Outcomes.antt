@@ -1,19 +1,31 @@
 -- One outcome for every input: any two outcomes that a call's promise allows are equal, answer, position, value and every lent list.
 -- And a refusal returns its number, the position given and the value 0, and writes nothing lent.
-use mathlib.Core.Path.{_≡_, ap}
+use mathlib.Core.Path.{_≡_, _∙_, ap, refl, sym, subst⁻¹}
+use mathlib.Core.Bool.{Bool, true, false, false≢true}
 use mathlib.Core.List.{List}
-use Prim.Native.Nat.{ℕ}
-use borrow.Author.Tests.{ne-eqb}
+use Prim.Native.Nat.{ℕ, _+_, _≤_}
+use native.Mathlib.Omega.{arith}
+use borrow.Author.Tests.{ne-eqb, le-leb, leb-true}
+use lib.Dec.{eqb, leb}
 use lib.IntN.{ℤ}
 use Rattle.rules.specs.declared.Position.{Position}
 use Rattle.rules.specs.declared.Settings.{Settings}
 use Rattle.rules.specs.declared.Answer.{Answer}
 use Rattle.rules.specs.declared.Value.{Value}
-use Rattle.rules.specs.States.{freshOf}
+use Rattle.rules.specs.declared.Pointer.{Pointer}
+use Rattle.rules.specs.declared.Decoded.{Decoded}
+use Rattle.rules.specs.declared.Decoded.the-variants.{At, Bad}
+use Rattle.rules.specs.declared.GameState.the-variants.{Loss}
+use Rattle.rules.specs.Words.{pick}
+use Rattle.rules.specs.States.{freshOf, withGame}
 use Rattle.rules.specs.Board.{numberingRefusal}
-use Rattle.rules.specs.Clicks.{Desk}
-use Rattle.rules.specs.Calls.{Outcome, outcome, SetUp, Totalled, Asked, Numbered, answers, setUp, refused, setupBy, setupRefusal, setupOf, resetOf, totalRefusal, totalOf, numberingOf, positionCheck, lentRefusal, flowRefusal, stepOf, flowOf, gameStateOf, bbbvSolvedOf, leftToSolveOf}
+use Rattle.rules.specs.Lent.{workAfter}
+use Rattle.rules.specs.Judging.{total3bv, leftToSolve}
+use Rattle.rules.specs.Clicks.{Desk, Play, desk, done}
+use Rattle.rules.specs.Step.{refusalAt, playAt, stepAt, stepBy, stepOn, pointerOf}
+use Rattle.rules.specs.Calls.{Outcome, outcome, SetUp, Totalled, Asked, Numbered, cellsIn, answers, setUp, refused, accepted, played, setupBy, setupRefusal, setupOf, resetOf, totalRefusal, totalOf, numberingOf, positionCheck, lentRefusal, flowRefusal, stepOf, flowOf, gameStateOf, bbbvSolvedOf, leftToSolveOf}
 use Rattle.cells.proofs.Words.{one}
+use Rattle.game.proofs.Answers.{play-answers}
 use Rattle.board.specs.Promises.{numbers, totals, asks, CheckBoardIs, NumberMinesIs, Total3bvIs, SetupIs, ResetIs, CheckPositionIs, StepGameStateIs, BbbvSolvedIs, LeftToSolveIs, StepIs, StepFlowIs}
 
 -- ---- one outcome -----------------------------------------------------------------------------------------------------------------------
@@ -112,3 +124,86 @@ module _ (B : List ℤ) (d : Desk) (work : List ℕ) where
   pub flow-refused : (events : List ℕ) → (flowRefusal B events d work ≡ 0 → ⊥) → flowOf B events d work ≡ refused (flowRefusal B events d work) d work
   unfolding flowOf
   flow-refused events h = simp (ne-eqb _ _ h)
+
+-- ---- whatever the number, all is given back --------------------------------------------------------------------------------------------
+
+-- an event that is refused leaves the desk as it was
+event-back : (B : List ℤ) (code r c : ℕ) (d : Desk) → 20 ≤ stepOn B code r c d .answer → stepOn B code r c d .desk ≡ d
+unfolding stepOn stepBy stepAt
+event-back B code r c d = by (pointerOf (d .position .settings) r c)
+  where
+    at : (x : Pointer) (b : Bool) → 20 ≤ pick b (playAt B code x d) (done (refusalAt code x d) d) .answer → pick b (playAt B code x d) (done (refusalAt code x d) d) .desk ≡ d
+    at x true h = let s = play-answers B code x d .small in absurd (omega arith)
+    at x false h = refl
+
+    by : (w : Decoded) → 20 ≤ stepBy B code w d .answer → stepBy B code w d .desk ≡ d
+    by (At x) h = at x (eqb (refusalAt code x d) 0) h
+    by Bad h = refl
+
+step-whole : (B : List ℤ) (code r c : ℕ) (d : Desk) (work : List ℕ) → 20 ≤ stepOf B code r c d work .answer .number
+    → stepOf B code r c d work ≡ refused (stepOf B code r c d work .answer .number) d work
+unfolding stepOf
+step-whole B code r c d work = at (eqb (lentRefusal B d work) 0)
+  where
+    o : Play
+    o = stepOn B code r c d
+
+    out : Bool → Outcome
+    out b = pick b (refused (o .answer) (o .desk) work) (accepted (o .answer) (o .desk) work)
+
+    by : (b : Bool) → leb 20 (o .answer) ≡ b → 20 ≤ out b .answer .number → out b ≡ refused (out b .answer .number) d work
+    by true e h = ap (λ (e : Desk). refused (o .answer) e work) (event-back B code r c d (leb-true _ _ e))
+    by false e h = absurd (false≢true (sym e ∙ le-leb _ _ h))
+
+    at : (b : Bool) → 20 ≤ pick b (played o work) (refused (lentRefusal B d work) d work) .answer .number
+        → pick b (played o work) (refused (lentRefusal B d work) d work) ≡ refused (pick b (played o work) (refused (lentRefusal B d work) d work) .answer .number) d work
+    at true h = by (leb 20 (o .answer)) refl h
+    at false h = refl
+
+-- a step answers 0 to 4, or it is refused: 20 to 26, 30 to 33
+pub step-gives-back : (p : Position) (code row column : ℕ) (B : List ℤ) (shown bits work : List ℕ) (r : Answer) (shown′ bits′ work′ : List ℕ)
+    → StepIs p code row column B shown bits work r shown′ bits′ work′ → 20 ≤ r .number → outcome r shown′ bits′ work′ ≡ refused (r .number) (desk p shown bits) work
+step-gives-back p code row column B shown bits work r shown′ bits′ work′ h =
+    subst⁻¹ (λ (o : Outcome). 20 ≤ o .answer .number → o ≡ refused (o .answer .number) (desk p shown bits) work) h (step-whole B code row column (desk p shown bits) work)
+
+module _ (p : Position) (B : List ℤ) (shown bits : List ℕ) where
+  -- the other calls answer 0, or they are refused: 20 to 26, and `step_game_state` with 33 too
+  pub step-game-state-gives-back : (event : ℕ) (r : Answer) → StepGameStateIs p B shown bits event r → (r .number ≡ 0 → ⊥) → r ≡ answers (r .number) p 0
+  unfolding gameStateOf
+  step-game-state-gives-back event r h = subst⁻¹ (λ (a : Answer). (a .number ≡ 0 → ⊥) → a ≡ answers (a .number) p 0) h (go (eqb (positionCheck B (desk p shown bits)) 0) (leb event 1))
+    where
+      out : Bool → Bool → Answer
+      out b t = pick b (pick t (answers 0 (withGame p Loss) 0) (answers 33 p 0)) (answers (positionCheck B (desk p shown bits)) p 0)
+
+      go : (b t : Bool) → (out b t .number ≡ 0 → ⊥) → out b t ≡ answers (out b t .number) p 0
+      go true true z = absurd (z refl)
+      go true false z = refl
+      go false t z = refl
+
+  pub bbbv-solved-gives-back : (r : Answer) → BbbvSolvedIs p B shown bits r → (r .number ≡ 0 → ⊥) → r ≡ answers (r .number) p 0
+  unfolding bbbvSolvedOf
+  bbbv-solved-gives-back r h = subst⁻¹ (λ (a : Answer). (a .number ≡ 0 → ⊥) → a ≡ answers (a .number) p 0) h (go (eqb (positionCheck B (desk p shown bits)) 0))
+    where
+      out : Bool → Answer
+      out b = pick b (answers 0 p (p .secrets .«solved_left» + p .secrets .«solved_chord»)) (answers (positionCheck B (desk p shown bits)) p 0)
+
+      go : (b : Bool) → (out b .number ≡ 0 → ⊥) → out b ≡ answers (out b .number) p 0
+      go true z = absurd (z refl)
+      go false z = refl
+
+  pub left-to-solve-gives-back : (work : List ℕ) (r : Answer) (work′ : List ℕ) → LeftToSolveIs p B shown bits work r work′ → (r .number ≡ 0 → ⊥)
+      → asks r work′ ≡ asks (answers (r .number) p 0) work
+  unfolding leftToSolveOf
+  left-to-solve-gives-back work r work′ h =
+      subst⁻¹ (λ (o : Asked). (o .answer .number ≡ 0 → ⊥) → o ≡ asks (answers (o .answer .number) p 0) work) h (go (eqb (lentRefusal B (desk p shown bits) work) 0))
+    where
+      out : Bool → Asked
+      out b =
+          pick b
+          (asks (answers 0 p (leftToSolve (total3bv B (p .settings .rows) (p .settings .columns)) (p .secrets .«solved_left») (p .secrets .«solved_chord»)))
+          (workAfter (cellsIn (p .settings)) work))
+          (asks (answers (lentRefusal B (desk p shown bits) work) p 0) work)
+
+      go : (b : Bool) → (out b .answer .number ≡ 0 → ⊥) → out b ≡ asks (answers (out b .answer .number) p 0) work
+      go true z = absurd (z refl)
+      go false z = refl
