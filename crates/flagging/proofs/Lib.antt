@@ -2,3 +2,4 @@ pub mod Signed
 pub mod Grows
 pub mod Flagging
 pub mod OneScan
+pub mod Room

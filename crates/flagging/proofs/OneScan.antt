@@ -106,7 +106,7 @@ module _ (R C : ℕ) where
     pub some : around R C (flagAt s) c < getD s c 0
     pub sum : getD s c 0 ≡ around R C (flagAt s) c + around R C (closedAt s) c
 
-  ripe-parts : (s : List ℕ) (c : ℕ) → ripeAt R C s c ≡ true → Ripe s c
+  pub ripe-parts : (s : List ℕ) (c : ℕ) → ripeAt R C s c ≡ true → Ripe s c
   unfolding ripeAt
   ripe-parts s c e =
       let a = and-right (leb 1 (getD s c 0)) _ e in
@@ -193,7 +193,7 @@ module _ (B : List ℤ) where
 
 -- ---- the code's pass ---------------------------------------------------------------------------------------------------------------------
 
-module _ (B : List ℤ) (d : Desk) (w w₁ : List ℕ) (n : ℕ) (p : Prepared B d w) (g : Grown w 0 (8 * cellsOf d) (found B d) w₁ n) (l : length w₁ ≡ length w) where
+module _ (B : List ℤ) (d : Desk) (w w₁ : List ℕ) (n : ℕ) (p : Prepared B d w) (g : Grown w 0 (7 * cellsOf d + 8) (found B d) w₁ n) (l : length w₁ ≡ length w) where
   -- what flagging the list asks
   pub pass-asks : Valued B × (Flaggable (length B) d × ((n ≤ length w₁) × Below (length B) (stackOf w₁ n)))
   pass-asks =

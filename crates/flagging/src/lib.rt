@@ -148,7 +148,7 @@ fn list_cells(shown: &[u8], work: &mut [u16], rows: usize, columns: usize) -> us
     requires { ⌜ Sized rows columns ⌝ }
     requires { ⌜ length (now shown) ≡ rows * columns ⌝ }
     requires { ⌜ workRoom (rows * columns) ≤ length (now work) ⌝ }
-    ensures { λ r. ⌜ Grown (now (work .entry)) 0 (8 * (rows * columns)) (listed rows columns (now (shown .entry)) (rows * columns)) (now (work .exit)) r ⌝ }
+    ensures { λ r. ⌜ Grown (now (work .entry)) 0 (7 * (rows * columns) + 8) (listed rows columns (now (shown .entry)) (rows * columns)) (now (work .exit)) r ⌝ }
 {
     let mut top = 0;
     for row in 0..rows {

@@ -2,6 +2,7 @@ pub mod Lists
 pub mod Turns
 pub mod Judging
 pub mod Reach
+pub mod Highest
 pub mod RustSame
 pub mod Once
 pub mod Marks

@@ -1,4 +1,4 @@
--- `flagging::list_cells` meets its contract. The loop: the rows before this one are listed, at most 8 entries a cell.
+-- `flagging::list_cells` meets its contract. The loop: the rows before this one are listed, at most 8 entries a cell; at the end at most 7 a cell, and 8.
 use mathlib.Core.Path.{_≡_, refl, _∙_}
 use Prim.Native.Nat.{_≤_, _-_, _*_}
 use native.Mathlib.Omega.{arith}
@@ -6,6 +6,7 @@ use lib.ListN.{length}
 use Rattle.rules.specs.Passes.{listed}
 use Rattle.cells.specs.Stack.{Grown}
 use Rattle.flagging.proofs.Grows.{rows-start, rows-turn, row-fits}
+use Rattle.flagging.proofs.Room.{list-short}
 use Rattle.flagging.proofs.list_cells.Statement.{statement}
 use Rattle.flagging.proofs.list_cells.Tie as tie
 
@@ -35,7 +36,7 @@ same-length : tie.Need-same-length Inv-loop μ-loop
 same-length c = c .before .loop .inv .2
 
 returns : tie.Need-returns Inv-loop μ-loop
-returns c = let e : c .before .loop .row ≡ c .before .before .before .before .args .rows = omega arith in rw e at (c .before .loop .inv .1)
+returns c = let e : c .before .loop .row ≡ c .before .before .before .before .args .rows = omega arith in list-short _ _ _ (c .before .before .before .before .pre .1 .0) (rw e at (c .before .loop .inv .1))
 
 pub list-cells-spec : {M : Type 1} → statement M
 list-cells-spec =
