@@ -45,6 +45,8 @@ unfoldable pub leftAt : List ℤ → Pointer → Desk → Play
 leftAt B (Cell r c) d = leftClick B (cellOf (columnsOf d) r c) d
 leftAt B Off d = done 0 (addLeft d)
 
+-- the Rust's right click answers Err on a cell that shows more than 9 but none of 10, 11 and 17. That cannot come: lawful are only 14 and 15 of these,
+-- both in Loss alone, where nothing is clicked
 unfoldable pub rightAt : List ℤ → Pointer → Desk → Play
 rightAt B (Cell r c) d = rightClick B (cellOf (columnsOf d) r c) d
 rightAt B Off d = done 0 (addRight d)
@@ -110,6 +112,8 @@ readyRc B x d =
     (rightAt B x (on d (withGame (withPreflags (moved 2 (d .position)) 1) PreFlaging)))
     (done 0 (move 2 d))
 
+-- for `rr` in ChordingNotFlag the Rust falls through to the Playing block, which takes a right press back and chords. That cannot come: a lawful
+-- Ready has the mouse in no NotFlag state
 unfoldable pub ready : List ℤ → Event → Desk → Play
 ready B (Lc x) d = readyLc x d
 ready B (Lr x) d = done 0 (move 1 d)
@@ -149,7 +153,8 @@ preLr B x d = pick (eqb (mouse d) 3) (preLeft B x (move 1 d)) (playLr B x d)
 abbrev pub lastTakenBack : ℕ → Desk → Desk
 lastTakenBack i d = desk (zeroed (withPreflags (d .position) 0)) (set (d .shown) i 10) (replicate (length (d .bits)) 0)
 
--- the right button goes down on a cell in UpUp: 10, 11 and 17 with the pre-flag count
+-- the right button goes down on a cell in UpUp: 10, 11 and 17 with the pre-flag count. The Rust answers Err on a cell that shows anything else.
+-- That cannot come: in a lawful PreFlaging nothing is open, and 14 and 15 stand in Loss alone
 unfoldable pub preCell : List ℤ → ℕ → Desk → Play
 preCell B i d =
     pick (eqb (getD (d .shown) i 0) 10) (rightClick B i (on d (withPreflags (d .position) (d .position .preflags + 1))))
