@@ -1,9 +1,9 @@
 // What the bench calls to open and to play: inner functions under plain names, numbers and slices only.
 ghost use mathlib.Core.List.{[], _∷_};
 ghost use Prim.Native.Nat.{_*_, _<_};
-ghost use Rattle.rules.specs.Lent.{workRoom};
-ghost use Rattle.cells.specs.Ground.{Fitting, Zeros};
-ghost use Rattle.opening.specs.Parts.{Refreshed};
+ghost use Rattle.rules.specs.Opening.{refreshed};
+ghost use Rattle.cells.specs.Contracts.{Laid, Leaves};
+ghost use Rattle.opening.specs.Parts.{opened};
 use rules::Answer;
 use rules::Position;
 use rules::Settings;
@@ -18,10 +18,9 @@ pub extern "C" fn bench_refresh_board(
     columns: usize,
     cell: u16,
 ) -> bool
-    requires { ⌜ Fitting (now mines) (now shown) (now work) rows columns ⌝ }
-    requires { ⌜ Zeros (workRoom (rows * columns)) (now work) ⌝ }
+    requires { ⌜ Laid (now mines) (now shown) (now work) rows columns ⌝ }
     requires { ⌜ cell < rows * columns ⌝ }
-    ensures { λ r. ⌜ Refreshed (now (mines .entry)) rows columns (cell ∷ []) (now (shown .entry)) (now (work .entry)) (now (shown .exit)) (now (work .exit)) r ⌝ }
+    ensures { λ r. ⌜ Leaves (opened (now (shown .exit)) r) (refreshed (now (mines .entry)) rows columns (cell ∷ []) (now (shown .entry))) (now (work .entry)) (now (work .exit)) ⌝ }
 {
     let at = [cell, 0, 0, 0, 0, 0, 0, 0];
     opening::refresh_board(mines, shown, work, rows, columns, rules::Cells { at, n: 1 })

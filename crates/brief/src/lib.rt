@@ -2,21 +2,18 @@
 // the mouse state alone, a flag that no pass follows, a number opened. Each changes a few parts of the position and at most one cell.
 // The contracts cite rules' Step; specs/Briefly says what is left of an event that is not brief: everything.
 ghost use mathlib.Core.Path.{_≡_};
-ghost use mathlib.Core.Bool.{false, _&&_};
+ghost use mathlib.Core.Bool.{_&&_};
 ghost use mathlib.Core.List.{List};
-ghost use Prim.Native.Nat.{ℕ, _+_, _*_, _/_, _<_, _≤_};
+ghost use Prim.Native.Nat.{ℕ, _*_};
 ghost use lib.Dec.{ltb};
-ghost use lib.ListN.{length, set};
+ghost use lib.ListN.{length};
 ghost use lib.IntN.{ℤ};
 ghost use Rattle.rules.specs.States.{isPlaying};
-ghost use Rattle.rules.specs.Grid.{cellOf};
-ghost use Rattle.rules.specs.Board.{faceAt};
-ghost use Rattle.rules.specs.Clicks.{desk, done, ended, addLeft, leftCounts, addRight, flagged};
-ghost use Rattle.rules.specs.Mouse.{moved};
-ghost use Rattle.rules.specs.Step.{move, playLr, playRc, playRr};
+ghost use Rattle.rules.specs.Clicks.{desk};
+ghost use Rattle.rules.specs.Step.{playLr, playRc, playRr};
 ghost use Rattle.rules.specs.declared.Pointer.the-variants.{Cell};
-ghost use Rattle.cells.specs.Ground.{Mined, Valued};
-ghost use Rattle.clicks.specs.Room.{LeftRoom};
+ghost use Rattle.cells.specs.Ground.{Mined};
+ghost use Rattle.cells.specs.Contracts.{RoomAt};
 ghost use Rattle.keep.specs.Kept.{LawfulAt, Inside};
 ghost use Rattle.brief.specs.Briefly.{Plainly, Briefly};
 use rules::GameState;
@@ -55,23 +52,6 @@ fn release_right(p: Position) -> Brief
     Brief::Done(o)
 }
 
-// A flag by hand from UpUp, on a closed cell.
-fn flag_at(p: Position, mines: &[i8], shown: &mut [u8], bits: &mut [u8], cell: usize) -> Played
-    requires { ⌜ (cell < length (now mines)) × (cell < length (now shown)) × (cell / 8 < length (now bits)) ⌝ }
-    requires { ⌜ Valued (now mines) ⌝ }
-    requires { ⌜ (p .counts .right ≤ 70000) × (p .counts .flag ≤ 70000) × (p .secrets .rce ≤ 70000) ⌝ }
-    ensures { λ r. ⌜ done (r .answer) (desk (r .position) (now (shown .exit)) (now (bits .exit))) ≡ done 1 (flagged (now (mines .entry)) cell (addRight (move 2 (desk p (now (shown .entry)) (now (bits .entry)))))) ⌝ }
-{
-    let n = p.counts.right + 1;
-    let down = mouse::moved(2, p);
-    let q = down.with_right(n);
-    let position = marking::flag(q, mines, shown, bits, cell);
-    Played {
-        answer: 1,
-        position,
-    }
-}
-
 // rc: from UpUp on a closed cell a flag, in a mode below 12, where no pass follows it.
 fn press_right(
     p: Position,
@@ -97,44 +77,12 @@ fn press_right(
     if shown[cell] != 10 {
         return Brief::Other;
     }
-    let o = flag_at(p, mines, shown, bits, cell);
-    Brief::Done(o)
-}
-
-// A left click on a closed number: it is shown, and opens nothing more.
-fn number_at(p: Position, row: u8, column: u8, face: u8, mines: &[i8], shown: &mut [u8]) -> Played
-    requires { ⌜ Mined (now mines) (p .settings .rows) (p .settings .columns) ⌝ }
-    requires { ⌜ length (now shown) ≡ p .settings .rows * p .settings .columns ⌝ }
-    requires { ⌜ Inside (p .settings) (Cell row column) ⌝ }
-    requires { ⌜ LeftRoom p ⌝ }
-    requires { ⌜ (face ≡ faceAt (now mines) (cellOf (p .settings .columns) row column)) × (face ≡ 0 → ⊥) × (face ≡ 15 → ⊥) ⌝ }
-    ensures { λ r. ⌜ ((bits : List ℕ) → done (r .answer) (desk (r .position) (now (shown .exit)) bits) ≡ ended (now (mines .entry)) 2 (leftCounts (now (mines .entry)) (addLeft (move 1 (desk p (now (shown .entry)) bits))) (cellOf (p .settings .columns) row column)) (record { shown = set (now (shown .entry)) (cellOf (p .settings .columns) row column) face; hit = false })) ⌝ }
-{
-    let rows = p.settings.rows as usize;
-    let columns = p.settings.columns as usize;
-    let beside = cells::zero_beside(mines, rows, columns, row as usize, column as usize);
-    let one = cells::one_if(!beside);
-    let left = p.counts.left + 1;
-    let lce = p.counts.lce + 1;
-    let solved = p.secrets.solved_left + one;
-    let up = mouse::moved(1, p);
-    let y = up.with_left(left);
-    let z = y.with_lce(lce);
-    let q = z.with_solved_left(solved);
-    let cell = mouse::cell(p.settings.columns, row, column);
-    shown[cell] = face;
-    let won = winning::is_win_near(mines, shown, cell);
-    if won {
-        let position = q.with_game(GameState::Win);
-        return Played {
-            answer: 2,
-            position,
-        };
-    }
-    Played {
-        answer: 2,
-        position: q,
-    }
+    let down = mouse::moved(2, p);
+    let position = marking::flag(down, mines, shown, bits, cell);
+    Brief::Done(Played {
+        answer: 1,
+        position,
+    })
 }
 
 // lr: from DownUp on a closed number the left click.
@@ -142,7 +90,7 @@ fn release_left(p: Position, row: u8, column: u8, mines: &[i8], shown: &mut [u8]
     requires { ⌜ Mined (now mines) (p .settings .rows) (p .settings .columns) ⌝ }
     requires { ⌜ length (now shown) ≡ p .settings .rows * p .settings .columns ⌝ }
     requires { ⌜ Inside (p .settings) (Cell row column) ⌝ }
-    requires { ⌜ LeftRoom p ⌝ }
+    requires { ⌜ RoomAt p (now shown) ⌝ }
     ensures { λ r. ⌜ ((bits : List ℕ) → Plainly (playLr (now (mines .entry)) (Cell row column)) p (now (shown .entry)) bits r (now (shown .exit)) bits) ⌝ }
 {
     let held = p.mouse;
@@ -158,7 +106,10 @@ fn release_left(p: Position, row: u8, column: u8, mines: &[i8], shown: &mut [u8]
     if !clicks::is_number(face) {
         return Brief::Other;
     }
-    let o = number_at(p, row, column, face, mines, shown);
+    let up = mouse::moved(1, p);
+    let r = cells::wide(row);
+    let c = cells::wide(column);
+    let o = clicks::left_number(up, mines, shown, r, c, face);
     Brief::Done(o)
 }
 

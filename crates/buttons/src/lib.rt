@@ -1,73 +1,40 @@
 // A click where the pointer is, and what a button does alike in PreFlaging and Playing, over the position by value and the lent boards.
-// Each function meets the definition of its name in rules' Step; specs/Able says what an event requires of a desk.
+// Each function meets the definition of its name in rules' Step.
 ghost use mathlib.Core.Path.{_≡_};
 ghost use mathlib.Core.List.{List};
 ghost use Prim.Native.Nat.{ℕ, _+_, _*_, _<_, _≤_};
-ghost use Rattle.rules.specs.States.{mouseNumber, withLeft, withRight, withMiddle};
+ghost use Rattle.rules.specs.States.{mouseNumber, withMiddle};
 ghost use Rattle.rules.specs.Clicks.{desk, done};
-ghost use Rattle.rules.specs.Passes.{rightClick};
 ghost use Rattle.rules.specs.Mouse.{moved};
 ghost use Rattle.rules.specs.Step.{leftAt, rightAt, chordAt, chordFrom, playLc, playLr, playRr};
-ghost use Rattle.clicks.specs.Room.{Laid, LeftRoom, Acts};
+ghost use Rattle.cells.specs.Contracts.{LaidAt, RoomAt, AbleAt, Plays, Acts};
 ghost use Rattle.keep.specs.Kept.{Inside};
-ghost use Rattle.buttons.specs.Able.{AbleAt, Plays};
 use rules::Played;
 use rules::Pointer;
 use rules::Position;
 
 // ---- a click where the pointer is ------------------------------------------------------------------------------------------------------
 
-pub fn add_left(p: Position) -> Position
-    requires { ⌜ p .counts .left ≤ 70000 ⌝ }
-    ensures { λ r. ⌜ r ≡ withLeft p (p .counts .left + 1) ⌝ }
-{
-    let n = p.counts.left + 1;
-    p.with_left(n)
-}
-
-pub fn add_right(p: Position) -> Position
-    requires { ⌜ p .counts .right ≤ 70000 ⌝ }
-    ensures { λ r. ⌜ r ≡ withRight p (p .counts .right + 1) ⌝ }
-{
-    let n = p.counts.right + 1;
-    p.with_right(n)
-}
-
 pub fn left_at(p: Position, x: Pointer, mines: &[i8], shown: &mut [u8], work: &mut [u16]) -> Played
-    requires { ⌜ Laid (now mines) p (now shown) (now work) ⌝ }
-    requires { ⌜ LeftRoom p ⌝ }
+    requires { ⌜ LaidAt (now mines) p (now shown) (now work) ⌝ }
+    requires { ⌜ RoomAt p (now shown) ⌝ }
     requires { ⌜ Inside (p .settings) x ⌝ }
     ensures { λ r. ⌜ Acts (leftAt (now (mines .entry)) x) p (now (shown .entry)) (now (work .entry)) r (now (shown .exit)) (now (work .exit)) ⌝ }
 {
     match x {
         Pointer::Cell { row, column } => {
-            let i = mouse::cell(p.settings.columns, row, column);
-            clicks::left_click(p, mines, &mut *shown, &mut *work, i)
+            let r = cells::wide(row);
+            let c = cells::wide(column);
+            clicks::left_click(p, mines, &mut *shown, &mut *work, r, c)
         }
         Pointer::Off => {
-            let q = add_left(p);
+            let q = clicks::add_left(p);
             Played {
                 answer: 0,
                 position: q,
             }
         }
     }
-}
-
-// A right click on a cell.
-pub fn right_on(
-    p: Position,
-    i: usize,
-    mines: &[i8],
-    shown: &mut [u8],
-    bits: &mut [u8],
-    work: &mut [u16],
-) -> Played
-    requires { ⌜ AbleAt (now mines) p (now shown) (now bits) (now work) ⌝ }
-    requires { ⌜ i < p .settings .rows * p .settings .columns ⌝ }
-    ensures { λ r. ⌜ Plays (rightClick (now (mines .entry)) i) p (now (shown .entry)) (now (bits .entry)) (now (work .entry)) r (now (shown .exit)) (now (bits .exit)) (now (work .exit)) ⌝ }
-{
-    hands::right_click(p, mines, &mut *shown, &mut *bits, &mut *work, i)
 }
 
 pub fn chord_at(
@@ -109,10 +76,10 @@ pub fn right_at(
     match x {
         Pointer::Cell { row, column } => {
             let i = mouse::cell(p.settings.columns, row, column);
-            right_on(p, i, mines, &mut *shown, &mut *bits, &mut *work)
+            hands::right_click(p, mines, &mut *shown, &mut *bits, &mut *work, i)
         }
         Pointer::Off => {
-            let q = add_right(p);
+            let q = marking::add_right(p);
             Played {
                 answer: 0,
                 position: q,
@@ -163,7 +130,7 @@ pub fn play_lc(p: Position, x: Pointer) -> Played
             position: q,
         };
     }
-    let q = add_left(p);
+    let q = clicks::add_left(p);
     Played {
         answer: 0,
         position: q,

@@ -17,7 +17,7 @@ use Rattle.rules.specs.Clicks.{Desk}
 use Rattle.rules.specs.Calls.{SetUp, answers, setUp, setupBy, setupRefusal, setupOf, resetOf, totalRefusal, totalOf, positionCheck, lentRefusal, gameStateOf, bbbvSolvedOf, leftToSolveOf}
 use Rattle.cells.specs.Ground.{Sized, Mined, Zeros}
 use Rattle.cells.proofs.Filling.{cleared-zeros}
-use Rattle.judging.specs.Parts.{Lent}
+use Rattle.cells.specs.Contracts.{Leaves}
 use Rattle.judging.proofs.Judging.{total-cells}
 use Rattle.calls.specs.Promises.{totals, asks}
 use Rattle.calls.specs.Parts.{TotalMade}
@@ -41,12 +41,12 @@ module _ (B : List ℤ) {R C r c : ℕ} (er : r ≡ R) (ec : c ≡ C) (n : ℕ) 
   total-wide : total3bv B r c ≡ total3bv B R C
   total-wide = ap₂ (total3bv B) er ec
 
-  pub total-small : (t : ℕ) (w₂ : List ℕ) → Lent t (total3bv B r c) w₁ w₂ → Sized R C → t ≤ 2048
-  total-small t w₂ l s = let a = total-cells B R C in let b = l .answer ∙ total-wide in let k = s .cells in omega arith
+  pub total-small : (t : ℕ) (w₂ : List ℕ) → Leaves t (total3bv B r c) w₁ w₂ → Sized R C → t ≤ 2048
+  total-small t w₂ l s = let a = total-cells B R C in let b = l .outcome ∙ total-wide in let k = s .cells in omega arith
 
-  pub total-made : (t : ℕ) (w₂ : List ℕ) → Lent t (total3bv B r c) w₁ w₂ → TotalMade B R C w t w₂
+  pub total-made : (t : ℕ) (w₂ : List ℕ) → Leaves t (total3bv B r c) w₁ w₂ → TotalMade B R C w t w₂
   unfolding workAfter
-  total-made t w₂ l = record { total = l .answer ∙ total-wide; cleared = l .same ∙ e ∙ ap (λ (k : ℕ). replicate (workRoom k) 0 ++ drop (workRoom k) w) en }
+  total-made t w₂ l = record { total = l .outcome ∙ total-wide; cleared = l .same ∙ e ∙ ap (λ (k : ℕ). replicate (workRoom k) 0 ++ drop (workRoom k) w) en }
 
 module _ (R C : ℕ) (B : List ℤ) (work : List ℕ) (n : ℕ) (e : n ≡ totalRefusal R C B work) where
   pub total-refused : (n ≡ 0 → ⊥) → totals (record { number = n; value = 0 }) work ≡ totalOf R C B work

@@ -3,3 +3,4 @@ pub mod Grid
 pub mod Face
 pub mod Filling
 pub mod Stack
+pub mod Contracts

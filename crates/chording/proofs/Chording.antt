@@ -13,13 +13,12 @@ use Rattle.rules.specs.declared.Position.{Position}
 use Rattle.rules.specs.declared.Played.{Played}
 use Rattle.rules.specs.Words.{bit, rounds}
 use Rattle.rules.specs.States.{isPlaying}
-use Rattle.rules.specs.Lent.{workRoom}
 use Rattle.rules.specs.Clicks.{Desk, Play, desk, done, rowsOf, columnsOf, cellsOf, chordIsUseful, performChord}
 use Rattle.rules.specs.Passes.{Scan, noted, chordOne, chordScan, chordRound, chordMore, chordPass}
-use Rattle.cells.specs.Ground.{Valued, Fitting, Zeros}
+use Rattle.cells.specs.Ground.{Valued}
 use Rattle.cells.proofs.Words.{and-left, bit-le, rounds-keep, Looping, left, looping-start, looping-turn, looping-less, looping-done}
 use Rattle.opening.proofs.Cost.{closed-most}
-use Rattle.clicks.specs.Room.{Laid, Roomy, closedIn, Acts}
+use Rattle.cells.specs.Contracts.{Laid, LaidAt, PassRoomAt, closedIn, Acts}
 use Rattle.chords.specs.Fell.{Fell, idle, fell}
 use Rattle.chords.proofs.Steps.{chord-idle}
 use Rattle.chords.proofs.Chord.{chord-fell}
@@ -33,24 +32,20 @@ use Rattle.chording.specs.Scanning.{yes, scan, Scans}
 pub record Sits (st : Settings) (d : Desk) : Type 0 where
   pub settings : d .position .settings ≡ st
   pub board : length (d .shown) ≡ st .rows * st .columns
-  pub room : Roomy (d .position) (d .shown)
+  pub room : PassRoomAt (d .position) (d .shown)
 
 pub sits-long : (st : Settings) (d : Desk) → Sits st d → length (d .shown) ≡ cellsOf d
 sits-long st d s = s .board ∙ ap (λ (x : Settings). x .rows * x .columns) (sym (s .settings))
 
-module _ (B : List ℤ) (p : Position) (shown work : List ℕ) (l : Laid B p shown work) where
-  pub sits-start : Roomy p shown → (bits : List ℕ) → Sits (p .settings) (desk p shown bits)
+module _ (B : List ℤ) (p : Position) (shown work : List ℕ) (l : LaidAt B p shown work) where
+  pub sits-start : PassRoomAt p shown → (bits : List ℕ) → Sits (p .settings) (desk p shown bits)
   sits-start r bits = record { settings = refl; board = l .fits .board; room = r }
 
   -- the buffers still fit
-  pub laid-on : (d : Desk) (work′ : List ℕ) → Sits (p .settings) d → work′ ≡ work → Laid B (d .position) (d .shown) work′
+  pub laid-on : (d : Desk) (work′ : List ℕ) → Sits (p .settings) d → work′ ≡ work → LaidAt B (d .position) (d .shown) work′
   laid-on d work′ s e =
-      record {
-        fits =
-            subst⁻¹ (λ (st : Settings). Fitting B (d .shown) work′ (st .rows) (st .columns)) (s .settings)
-            (record { mined = l .fits .mined; board = s .board; room = rw e (l .fits .room) });
-        zeros = subst⁻¹ (λ (st : Settings). Zeros (workRoom (st .rows * st .columns)) work′) (s .settings) (rw e (l .zeros));
-      }
+      subst⁻¹ (λ (st : Settings). Laid B (d .shown) work′ (st .rows) (st .columns)) (s .settings)
+      (record { fits = record { mined = l .fits .mined; board = s .board; room = rw e (l .fits .room) }; zeros = rw e (l .zeros) })
 
   pub cell-on : (d : Desk) (i : ℕ) → Sits (p .settings) d → i < p .settings .rows * p .settings .columns → i < cellsOf d
   cell-on d i s h = subst⁻¹ (λ (st : Settings). i < st .rows * st .columns) (s .settings) h
@@ -101,25 +96,25 @@ module _ (B : List ℤ) (v : Valued B) (i : ℕ) (s : Scanned) (shown shown′ w
     (a : Acts (performChord B i) (s .position) shown w o shown′ w′) where
   board-kept : (bits : List ℕ) → o .answer ≡ 0 → Fell (desk (s .position) shown bits) (performChord B i (desk (s .position) shown bits))
       → (shown′ ≡ shown) × (chordOne B i (scan s shown bits) ≡ scan s shown bits)
-  board-kept bits z (idle e) = (ap (λ (x : Play). x .desk .shown) (a .outcome bits ∙ e), one-idle B i (scan s shown bits) e)
-  board-kept bits z (fell n c l t b r) = absurd (n (sym (ap (λ (x : Play). x .answer) (a .outcome bits)) ∙ z))
+  board-kept bits z (idle e) = (ap (λ (x : Play). x .desk .shown) (a bits .outcome ∙ e), one-idle B i (scan s shown bits) e)
+  board-kept bits z (fell n c l t b r) = absurd (n (sym (ap (λ (x : Play). x .answer) (a bits .outcome)) ∙ z))
 
   pub one-none : o .answer ≡ 0 → Scans (λ bits. chordOne B i (scan s shown bits)) w s shown′ w′
   one-none z =
-      record {
-        outcome = λ bits. let k = board-kept bits z (chord-fell B v i (desk (s .position) shown bits) long) in ap (λ (l : List ℕ). scan s l bits) (k .0) ∙ sym (k .1);
-        same = a .same;
-      }
+      λ bits.
+      let k = board-kept bits z (chord-fell B v i (desk (s .position) shown bits) long) in
+      record { outcome = ap (λ (l : List ℕ). scan s l bits) (k .0) ∙ sym (k .1); same = a bits .same }
 
   pub one-some : isPlaying (s .position .game) ≡ true → (o .answer ≡ 0 → ⊥) → (r : Scanned) → r ≡ yes (o .position)
       → Scans (λ bits. chordOne B i (scan s shown bits)) w r shown′ w′
   one-some e n r d =
+      λ bits.
       record {
-        outcome = λ bits.
+        outcome =
             ap (λ (x : Scanned). scan x shown′ bits) d
-            ∙ ap opened (a .outcome bits)
-            ∙ sym (one-plays B i (scan s shown bits) e ∙ noted-some (scan s shown bits) (performChord B i (desk (s .position) shown bits)) (λ z. n (ap (λ (x : Play). x .answer) (a .outcome bits) ∙ z)));
-        same = a .same;
+            ∙ ap opened (a bits .outcome)
+            ∙ sym (one-plays B i (scan s shown bits) e ∙ noted-some (scan s shown bits) (performChord B i (desk (s .position) shown bits)) (λ z. n (ap (λ (x : Play). x .answer) (a bits .outcome) ∙ z)));
+        same = a bits .same;
       }
 
 -- ---- what chords keep ----------------------------------------------------------------------------------------------------------------------
@@ -168,7 +163,7 @@ pub scanning-start : (B : List ℤ) (t : Scanned) (shown w : List ℕ) → Scann
 unfolding chordScan
 scanning-start B t shown w = record { same = λ bits. refl; back = refl }
 
-module _ (B : List ℤ) (t₀ : Scanned) (shown₀ w₀ : List ℕ) (l : Laid B (t₀ .position) shown₀ w₀) (r : Roomy (t₀ .position) shown₀)
+module _ (B : List ℤ) (t₀ : Scanned) (shown₀ w₀ : List ℕ) (l : LaidAt B (t₀ .position) shown₀ w₀) (r : PassRoomAt (t₀ .position) shown₀)
     (t : Scanned) (shown w : List ℕ) (i : ℕ) (g : Scanning B t₀ shown₀ w₀ t shown w i) where
   pub scanning-sits : Sits (t₀ .position .settings) (desk (t .position) shown [])
   scanning-sits =
@@ -177,7 +172,7 @@ module _ (B : List ℤ) (t₀ : Scanned) (shown₀ w₀ : List ℕ) (l : Laid B 
       (record { count = omega arith; sits = sits-start B (t₀ .position) shown₀ w₀ l r []; kept = refl }) .sits)
 
   pub scanning-asks : i < t₀ .position .settings .rows * t₀ .position .settings .columns
-      → Laid B (t .position) shown w × ((i < t .position .settings .rows * t .position .settings .columns) × Roomy (t .position) shown)
+      → LaidAt B (t .position) shown w × ((i < t .position .settings .rows * t .position .settings .columns) × PassRoomAt (t .position) shown)
   scanning-asks h = (
     laid-on B (t₀ .position) shown₀ w₀ l (desk (t .position) shown []) w scanning-sits (g .back),
     (cell-on B (t₀ .position) shown₀ w₀ l (desk (t .position) shown []) i scanning-sits h, scanning-sits .room),
@@ -185,7 +180,7 @@ module _ (B : List ℤ) (t₀ : Scanned) (shown₀ w₀ : List ℕ) (l : Laid B 
 
   pub scanning-turn : (t′ : Scanned) (shown′ w′ : List ℕ) → Scans (λ bits. chordOne B i (scan t shown bits)) w t′ shown′ w′ → Scanning B t₀ shown₀ w₀ t′ shown′ w′ (i + 1)
   unfolding chordScan
-  scanning-turn t′ shown′ w′ e = record { same = λ bits. rw add-one (e .outcome bits ∙ ap (chordOne B i) (g .same bits)); back = e .same ∙ g .back }
+  scanning-turn t′ shown′ w′ e = record { same = λ bits. rw add-one (e bits .outcome ∙ ap (chordOne B i) (g .same bits)); back = e [] .same ∙ g .back }
 
   -- the cells up to the next useful one are passed over
   pub scanning-over : (r : ℕ) → First (chordIsUseful (t₀ .position .settings .rows) (t₀ .position .settings .columns) shown) i (t₀ .position .settings .rows * t₀ .position .settings .columns) r
@@ -207,7 +202,7 @@ module _ (B : List ℤ) (t₀ : Scanned) (shown₀ w₀ : List ℕ) (l : Laid B 
       → Scans (λ bits. chordRound B (scan s shown₀ bits)) w₀ t shown w
   unfolding chordRound
   scanning-done s e b =
-      record { outcome = λ bits. g .same bits ∙ ap₂ (λ (n : ℕ) (x : Scanned). chordScan B n (scan x shown₀ bits)) e b; same = g .back }
+      λ bits. record { outcome = g .same bits ∙ ap₂ (λ (n : ℕ) (x : Scanned). chordScan B n (scan x shown₀ bits)) e b; same = g .back }
 
 -- ---- the scans end -------------------------------------------------------------------------------------------------------------------------
 
@@ -252,7 +247,7 @@ pub record Passing (B : List ℤ) (st : Settings) (s₀ : Scanned) (shown₀ w�
 abbrev pub toGo : List ℤ → Settings → Scanned → List ℕ → Bool → ℕ
 toGo B st s shown go = left (chordRound B) chordMore size (On st) go (scan s shown [])
 
-module _ (B : List ℤ) (s₀ : Scanned) (shown₀ w₀ : List ℕ) (l : Laid B (s₀ .position) shown₀ w₀) where
+module _ (B : List ℤ) (s₀ : Scanned) (shown₀ w₀ : List ℕ) (l : LaidAt B (s₀ .position) shown₀ w₀) where
   abbrev of : Settings
   of = s₀ .position .settings
 
@@ -262,7 +257,7 @@ module _ (B : List ℤ) (s₀ : Scanned) (shown₀ w₀ : List ℕ) (l : Laid B 
   less : (s : Scan) → On of s → chordMore (chordRound B s) ≡ true → size (chordRound B s) < size s
   less = round-less B (l .fits .mined .valued) of
 
-  pub passing-start : Roomy (s₀ .position) shown₀ → Passing B of s₀ shown₀ w₀ s₀ shown₀ w₀ true
+  pub passing-start : PassRoomAt (s₀ .position) shown₀ → Passing B of s₀ shown₀ w₀ s₀ shown₀ w₀ true
   passing-start r =
       record {
         loop = λ bits.
@@ -273,7 +268,7 @@ module _ (B : List ℤ) (s₀ : Scanned) (shown₀ w₀ : List ℕ) (l : Laid B 
       }
 
   module _ (s : Scanned) (shown w : List ℕ) (go : Bool) (g : Passing B of s₀ shown₀ w₀ s shown w go) where
-    pub passing-asks : Laid B (s .position) shown w × Roomy (s .position) shown
+    pub passing-asks : LaidAt B (s .position) shown w × PassRoomAt (s .position) shown
     passing-asks =
         let o = g .loop [] .fine in
         (laid-on B (s₀ .position) shown₀ w₀ l (desk (s .position) shown []) w o (g .back), o .room)
@@ -285,21 +280,22 @@ module _ (B : List ℤ) (s₀ : Scanned) (shown₀ w₀ : List ℕ) (l : Laid B 
           record {
             loop = λ bits.
                 looping-turn (chordRound B) chordMore size (On of) keep less (rounds (chordRound B) chordMore (suc (of .rows * of .columns)) (scan s₀ shown₀ bits))
-                go (scan s shown bits) (g .loop bits) e go′ (scan s′ shown′ bits) (d .outcome bits) m;
-            back = d .same ∙ g .back;
+                go (scan s shown bits) (g .loop bits) e go′ (scan s′ shown′ bits) (d bits .outcome) m;
+            back = d [] .same ∙ g .back;
           }
 
       pub passing-less : toGo B of s′ shown′ go′ < toGo B of s shown go
       passing-less =
           looping-less (chordRound B) chordMore size (On of) keep less (rounds (chordRound B) chordMore (suc (of .rows * of .columns)) (scan s₀ shown₀ []))
-          go (scan s shown []) (g .loop []) e go′ (scan s′ shown′ []) (d .outcome []) m
+          go (scan s shown []) (g .loop []) e go′ (scan s′ shown′ []) (d [] .outcome) m
 
     pub passing-done : (p : Position) → s₀ ≡ record { position = p; any = false; ever = false } → go ≡ false
         → Scans (λ bits. chordPass B (desk p shown₀ bits)) w₀ s shown w
     unfolding chordPass
     passing-done p e h =
+        λ bits.
         record {
-          outcome = λ bits.
+          outcome =
               looping-done (chordRound B) chordMore size (On of) keep less (rounds (chordRound B) chordMore (suc (of .rows * of .columns)) (scan s₀ shown₀ bits))
               go (scan s shown bits) (g .loop bits) h
               ∙ ap (λ (x : Scanned). rounds (chordRound B) chordMore (suc (x .position .settings .rows * x .position .settings .columns)) (scan x shown₀ bits)) e;

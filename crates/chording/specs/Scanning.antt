@@ -6,6 +6,7 @@ use Prim.Native.Nat.{ℕ}
 use Rattle.rules.specs.declared.Position.{Position}
 use Rattle.rules.specs.Clicks.{desk}
 use Rattle.rules.specs.Passes.{Scan}
+use Rattle.cells.specs.Contracts.{Leaves}
 use Rattle.chording.specs.declared.Scanned.{Scanned}
 
 -- a chord opened something
@@ -17,6 +18,5 @@ abbrev pub scan : Scanned → List ℕ → List ℕ → Scan
 scan s shown bits = record { desk = desk (s .position) shown bits; any = s .any; ever = s .ever }
 
 -- a scan that leaves the bits alone, whatever they are; the work comes back as it was lent
-pub record Scans (due : List ℕ → Scan) (w : List ℕ) (r : Scanned) (shown′ w′ : List ℕ) : Type 0 where
-  pub outcome : (bits : List ℕ) → scan r shown′ bits ≡ due bits
-  pub same : w′ ≡ w
+abbrev pub Scans : (List ℕ → Scan) → List ℕ → Scanned → List ℕ → List ℕ → Type 0
+Scans due w r shown′ w′ = (bits : List ℕ) → Leaves (scan r shown′ bits) (due bits) w w′

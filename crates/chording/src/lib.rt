@@ -11,7 +11,7 @@ ghost use Rattle.rules.specs.Grid.{cellOf};
 ghost use Rattle.rules.specs.Clicks.{desk, chordIsUseful};
 ghost use Rattle.rules.specs.Passes.{chordOne, chordRound, chordPass};
 ghost use Rattle.cells.specs.Ground.{Sized};
-ghost use Rattle.clicks.specs.Room.{Laid, Roomy};
+ghost use Rattle.cells.specs.Contracts.{LaidAt, PassRoomAt};
 ghost use Rattle.chording.specs.Seeking.{First, usefulInside, OnlyEnds};
 ghost use Rattle.chording.specs.Scanning.{yes, scan, Scans};
 use rules::GameState;
@@ -163,9 +163,9 @@ fn next_useful(shown: &[u8], rows: usize, columns: usize, cell: usize) -> usize
 
 // A cell is chorded, while Playing; one where a chord cannot run is left alone.
 fn chord_one(s: Scanned, mines: &[i8], shown: &mut [u8], work: &mut [u16], cell: usize) -> Scanned
-    requires { ⌜ Laid (now mines) (s .position) (now shown) (now work) ⌝ }
+    requires { ⌜ LaidAt (now mines) (s .position) (now shown) (now work) ⌝ }
     requires { ⌜ cell < s .position .settings .rows * s .position .settings .columns ⌝ }
-    requires { ⌜ Roomy (s .position) (now shown) ⌝ }
+    requires { ⌜ PassRoomAt (s .position) (now shown) ⌝ }
     ensures { λ r. ⌜ Scans (λ (b : List ℕ). chordOne (now (mines .entry)) cell (scan s (now (shown .entry)) b)) (now (work .entry)) r (now (shown .exit)) (now (work .exit)) ⌝ }
 {
     let p = s.position;
@@ -182,8 +182,8 @@ fn chord_one(s: Scanned, mines: &[i8], shown: &mut [u8], work: &mut [u16], cell:
 
 // One scan: the cells in row order, each on what the ones before it left. A cell that is not useful is passed over: it changes nothing.
 fn chord_round(s: Scanned, mines: &[i8], shown: &mut [u8], work: &mut [u16]) -> Scanned
-    requires { ⌜ Laid (now mines) (s .position) (now shown) (now work) ⌝ }
-    requires { ⌜ Roomy (s .position) (now shown) ⌝ }
+    requires { ⌜ LaidAt (now mines) (s .position) (now shown) (now work) ⌝ }
+    requires { ⌜ PassRoomAt (s .position) (now shown) ⌝ }
     ensures { λ r. ⌜ Scans (λ (b : List ℕ). chordRound (now (mines .entry)) (scan s (now (shown .entry)) b)) (now (work .entry)) r (now (shown .exit)) (now (work .exit)) ⌝ }
 {
     let position = s.position;
@@ -216,8 +216,8 @@ pub fn goes_on(opened: bool, p: Position) -> bool
 
 // The chord pass: until a scan opens nothing, or the game is over.
 pub fn chord_pass(p: Position, mines: &[i8], shown: &mut [u8], work: &mut [u16]) -> Scanned
-    requires { ⌜ Laid (now mines) p (now shown) (now work) ⌝ }
-    requires { ⌜ Roomy p (now shown) ⌝ }
+    requires { ⌜ LaidAt (now mines) p (now shown) (now work) ⌝ }
+    requires { ⌜ PassRoomAt p (now shown) ⌝ }
     ensures { λ r. ⌜ Scans (λ (b : List ℕ). chordPass (now (mines .entry)) (desk p (now (shown .entry)) b)) (now (work .entry)) r (now (shown .exit)) (now (work .exit)) ⌝ }
 {
     let mut s = Scanned {

@@ -22,7 +22,7 @@ use Rattle.opening.specs.Changed.{In}
 use Rattle.opening.proofs.Lists.{all-pushed}
 use Rattle.opening.proofs.Opening.{opening-length, opening-opens-some}
 use Rattle.judging.proofs.Judging.{judged-lones-length}
-use Rattle.clicks.specs.Room.{closedIn}
+use Rattle.cells.specs.Contracts.{closedIn}
 use Rattle.chords.specs.Fell.{Fell, idle, fell}
 use Rattle.clicks.proofs.Ends.{Ending, ending}
 use Rattle.chords.proofs.Steps.{chord-idle, chord-runs}

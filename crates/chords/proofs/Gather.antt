@@ -16,7 +16,7 @@ use Rattle.cells.specs.Ground.{Below}
 use Rattle.cells.proofs.Words.{stack-push}
 use Rattle.cells.proofs.Grid.{neighbour-at, cell-back, pushed-below}
 use Rattle.opening.proofs.Cases.{closed-in}
-use Rattle.clicks.specs.Room.{oneMore, Collected}
+use Rattle.clicks.specs.Parts.{oneMore, Collected}
 
 -- the array as it starts
 abbrev pub noCells : Cells

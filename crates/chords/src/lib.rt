@@ -1,5 +1,5 @@
 // The chord without the counts of the hand.
-// The contracts cite rules' Clicks, and `clicks`' specs/Room for what a chord requires and how its outcome reads.
+// The contracts cite rules' Clicks.
 ghost use mathlib.Core.Path.{_≡_};
 ghost use Prim.Native.Nat.{_+_, _*_, _/_, _<_, _≤_};
 ghost use lib.ListN.{length};
@@ -8,7 +8,8 @@ ghost use Rattle.rules.specs.Grid.{cellOf};
 ghost use Rattle.rules.specs.Opening.{closedAt};
 ghost use Rattle.rules.specs.Clicks.{chordIsUseful, closedAround, chordCounts, performChord};
 ghost use Rattle.cells.specs.Ground.{Sized, Below};
-ghost use Rattle.clicks.specs.Room.{Laid, Roomy, Acts, Adds, oneMore, Collected};
+ghost use Rattle.cells.specs.Contracts.{LaidAt, PassRoomAt, Acts};
+ghost use Rattle.clicks.specs.Parts.{Adds, oneMore, Collected};
 use rules::Cells;
 use rules::Played;
 use rules::Position;
@@ -80,7 +81,7 @@ fn closed_around(shown: &[u8], rows: usize, columns: usize, cell: usize) -> Cell
 
 // Chorded numbers without a 0 neighbour add to solved_chord, then each opening newly judged.
 fn chord_counts(p: Position, mines: &[i8], shown: &[u8], work: &mut [u16], cells: Cells) -> Position
-    requires { ⌜ Laid (now mines) p (now shown) (now work) ⌝ }
+    requires { ⌜ LaidAt (now mines) p (now shown) (now work) ⌝ }
     requires { ⌜ cells .n ≤ 8 ⌝ }
     requires { ⌜ Below (p .settings .rows * p .settings .columns) (stackOf (cells .at) (cells .n)) ⌝ }
     requires { ⌜ p .secrets .«solved_chord» ≤ 1000000 ⌝ }
@@ -102,9 +103,9 @@ pub fn perform_chord(
     work: &mut [u16],
     cell: usize,
 ) -> Played
-    requires { ⌜ Laid (now mines) p (now shown) (now work) ⌝ }
+    requires { ⌜ LaidAt (now mines) p (now shown) (now work) ⌝ }
     requires { ⌜ cell < p .settings .rows * p .settings .columns ⌝ }
-    requires { ⌜ Roomy p (now shown) ⌝ }
+    requires { ⌜ PassRoomAt p (now shown) ⌝ }
     ensures { λ r. ⌜ Acts (performChord (now (mines .entry)) cell) p (now (shown .entry)) (now (work .entry)) r (now (shown .exit)) (now (work .exit)) ⌝ }
 {
     let rows = p.settings.rows as usize;

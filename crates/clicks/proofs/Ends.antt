@@ -15,7 +15,9 @@ use Rattle.rules.specs.States.{withGame}
 use Rattle.rules.specs.Board.{faceAt}
 use Rattle.rules.specs.Opening.{Opened, refreshed, run, turns, shownAfter, stackAfter, hitAfter}
 use Rattle.rules.specs.Clicks.{Desk, Play, desk, done, showing, isWon, ended}
-use Rattle.clicks.specs.Room.{Acts, opensWith}
+use Rattle.cells.specs.Contracts.{play, Acts}
+use Rattle.opening.specs.Parts.{opened}
+use Rattle.clicks.specs.Parts.{opensWith}
 
 -- what an ending leaves: the opened board, and all but the game state as it was
 pub record Ending (n : ℕ) (d : Desk) (shown : List ℕ) (x : Play) : Type 0 where
@@ -49,11 +51,9 @@ module _ (B : List ℤ) (n : ℕ) (d : Desk) (o : Opened) where
 
 -- the cells opened, and the ending
 pub opened-ends : (B : List ℤ) (n : ℕ) (given : List ℕ) (p : Position) (shown work : List ℕ) (r : Played) (shown′ work′ : List ℕ) (hit : Bool)
-    → _≡_ {A = Opened} (record { shown = shown′; hit = hit }) (refreshed B (p .settings .rows) (p .settings .columns) given shown)
-    → ((past bits : List ℕ) → done (r .answer) (desk (r .position) shown′ bits) ≡ ended B n (desk p past bits) (record { shown = shown′; hit = hit }))
-    → work′ ≡ work → Acts (opensWith B n given) p shown work r shown′ work′
-opened-ends B n given p shown work r shown′ work′ hit o e w =
-    record { outcome = λ bits. e shown bits ∙ ap (ended B n (desk p shown bits)) o; same = w }
+    → opened shown′ hit ≡ refreshed B (p .settings .rows) (p .settings .columns) given shown
+    → ((past bits : List ℕ) → play r shown′ bits ≡ ended B n (desk p past bits) (opened shown′ hit)) → work′ ≡ work → Acts (opensWith B n given) p shown work r shown′ work′
+opened-ends B n given p shown work r shown′ work′ hit o e w = λ bits. record { outcome = e shown bits ∙ ap (ended B n (desk p shown bits)) o; same = w }
 
 -- a number that is opened is shown, and opens nothing more
 module _ (B : List ℤ) (R C i : ℕ) (shown : List ℕ) (ten : getD shown i 0 ≡ 10) (nonzero : faceAt B i ≡ 0 → ⊥) (mine : faceAt B i ≡ 15 → ⊥) where
@@ -69,12 +69,12 @@ module _ (B : List ℤ) (R C i : ℕ) (shown : List ℕ) (ten : getD shown i 0 �
   unfolding hitAfter
   hits-none = simp (eq-eqb _ _ ten, ne-eqb _ _ mine)
 
-  number-runs : (f : ℕ) → run B R C (suc (suc f)) (i ∷ []) shown false ≡ record { shown = set shown i (faceAt B i); hit = false }
+  number-runs : (f : ℕ) → run B R C (suc (suc f)) (i ∷ []) shown false ≡ opened (set shown i (faceAt B i)) false
   unfolding run
   number-runs f =
       ap₂ (λ (st s : List ℕ). run B R C (suc f) st s (hitAfter B shown i false)) pushes-none shows-number
       ∙ ap (λ (h : Bool). run B R C (suc f) [] (set shown i (faceAt B i)) h) hits-none
 
-  pub opened-number : _≡_ {A = Opened} (record { shown = set shown i (faceAt B i); hit = false }) (refreshed B R C (i ∷ []) shown)
+  pub opened-number : opened (set shown i (faceAt B i)) false ≡ refreshed B R C (i ∷ []) shown
   unfolding refreshed
   opened-number = let t : turns (R * C) ≡ suc (suc (8 * (R * C) + 6)) = omega arith in rw (t, number-runs (8 * (R * C) + 6)) refl

@@ -1,46 +1,106 @@
 -- The ways through a left click: from what the called functions ensure to the definition.
-use mathlib.Core.Path.{_≡_, refl, ap, sym, _∙_}
-use mathlib.Core.Bool.{Bool, true, false}
+use mathlib.Core.Path.{_≡_, refl, ap, sym, subst, _∙_}
+use mathlib.Core.Bool.{Bool, true, false, not}
 use mathlib.Core.List.{List, [], _∷_}
 use Prim.Native.Nat.{ℕ, _+_, _*_, _<_, _≤_}
 use native.Mathlib.Omega.{arith}
 use borrow.Author.Tests.{eq-eqb, ne-eqb}
-use lib.ListN.{getD}
+use lib.Dec.{leb}
+use lib.ListN.{getD, set}
 use lib.IntN.{ℤ}
+use Rattle.rules.specs.declared.Settings.{Settings}
 use Rattle.rules.specs.declared.Position.{Position}
 use Rattle.rules.specs.declared.Played.{Played}
 use Rattle.rules.specs.declared.Cells.{Cells}
 use Rattle.rules.specs.Words.{pick, bit, stackOf}
 use Rattle.rules.specs.States.{withLeft, withLce, withSolvedLeft}
-use Rattle.rules.specs.Board.{faceAt, mineAt, loneAt}
+use Rattle.rules.specs.Grid.{cellOf, around}
+use Rattle.rules.specs.Board.{faceAt, mineAt}
 use Rattle.rules.specs.Opening.{refreshed}
 use Rattle.rules.specs.Judging.{judgedLeft}
-use Rattle.rules.specs.Clicks.{Desk, desk, rowsOf, columnsOf, ended, solvesLeft, leftCounts, leftOpens, leftClick}
-use Rattle.cells.specs.Ground.{Below}
-use Rattle.clicks.specs.Room.{Laid, Acts, Adds, opensWith, leftAdds, Collected}
+use Rattle.rules.specs.Clicks.{Desk, desk, rowsOf, columnsOf, ended, addLeft, solvesLeft, leftCounts, leftOpens, leftClick}
+use Rattle.cells.specs.Ground.{Below, faceIs}
+use Rattle.cells.specs.Contracts.{Laid, LaidAt, RoomAt, play, Leaves, Acts}
+use Rattle.cells.proofs.Grid.{cell-lt}
+use Rattle.opening.specs.Parts.{opened}
+use Rattle.lones.proofs.Lones.{lone-number}
+use Rattle.clicks.specs.Parts.{NumberAt, SpreadsAt, Adds, opensWith, leftAdds, Collected}
+use Rattle.clicks.proofs.Ends.{opened-number}
 
--- the table stays laid where the size and the work stay
-pub laid-same : {B : List ℤ} {p q : Position} {shown work work′ : List ℕ} → Laid B p shown work → q .settings ≡ p .settings → work′ ≡ work → Laid B q shown work′
-laid-same l s e = record { fits = rw (s, e) (l .fits); zeros = rw (s, e) (l .zeros) }
+-- ---- left + 1 leaves all else ----------------------------------------------------------------------------------------------------------
 
-module _ (B : List ℤ) (d : Desk) (i f : ℕ) (face : f ≡ faceAt B i) where
-  pub solves-zero : f ≡ 0 → solvesLeft B d i ≡ judgedLeft B (rowsOf d) (columnsOf d) (d .shown) i
+module _ (p q : Position) {n : ℕ} (e : q ≡ withLeft p n) where
+  pub added-laid : {B : List ℤ} {shown work : List ℕ} → LaidAt B p shown work → LaidAt B q shown work
+  added-laid l = rw e l
+
+  pub added-place : (i : ℕ) → i < p .settings .rows * p .settings .columns → i < q .settings .rows * q .settings .columns
+  added-place i h = rw e h
+
+  pub added-room : {shown : List ℕ} → RoomAt p shown → (q .counts .lce ≤ 70000) × (q .secrets .«solved_left» ≤ 1000000)
+  added-room r = rw e (r .lce, r .solvedLeft)
+
+module _ (B : List ℤ) (i : ℕ) (p : Position) (shown work : List ℕ) (q : Position) (added : q ≡ withLeft p (p .counts .left + 1)) where
+  pub left-idle : (getD shown i 0 ≡ 10 → ⊥) → Acts (leftClick B i) p shown work (record { answer = 0; position = q }) shown work
+  unfolding leftClick
+  left-idle n = λ bits. record { outcome = simp (ne-eqb _ _ n, added); same = refl }
+
+  pub left-closed : getD shown i 0 ≡ 10 → (r : Played) (shown′ work′ : List ℕ) → Acts (leftOpens B i) q shown work r shown′ work′ → Acts (leftClick B i) p shown work r shown′ work′
+  unfolding leftClick
+  left-closed ten r shown′ work′ o = λ bits. record { outcome = o bits .outcome ∙ simp (eq-eqb _ _ ten, added); same = o bits .same }
+
+-- ---- a number --------------------------------------------------------------------------------------------------------------------------
+
+-- a closed cell of the board that shows a number once it is open
+pub number-at : {B : List ℤ} (s : Settings) {shown work : List ℕ} {row column face : ℕ} → Laid B shown work (s .rows) (s .columns) → (row < s .rows) × (column < s .columns)
+    → getD shown (cellOf (s .columns) row column) 0 ≡ 10 → face ≡ faceAt B (cellOf (s .columns) row column) → (face ≡ 0 → ⊥) × (face ≡ 15 → ⊥)
+    → NumberAt B s shown row column face
+number-at s l i ten own n =
+    record { mined = l .fits .mined; board = l .fits .board; inside = i; closed = ten; own = own; nonzero = n .0; safe = n .1 }
+
+pub number-place : {B : List ℤ} {s : Settings} {shown : List ℕ} {row column face : ℕ} → NumberAt B s shown row column face → cellOf (s .columns) row column < s .rows * s .columns
+number-place {s} {row} {column} h = cell-lt (s .rows) (s .columns) row column (h .inside .0) (h .inside .1)
+
+module _ (B : List ℤ) (p : Position) (shown : List ℕ) (row column f : ℕ) (h : NumberAt B (p .settings) shown row column f) where
+  abbrev here : ℕ
+  here = cellOf (p .settings .columns) row column
+
+  module _ (beside : Bool) (around-it : beside ≡ leb 1 (around (p .settings .rows) (p .settings .columns) (faceIs B 0) here)) where
+    -- it solves exactly if no 0 is beside it
+    number-solves : (bits : List ℕ) → solvesLeft B (addLeft (desk p shown bits)) here ≡ not beside
+    unfolding solvesLeft
+    number-solves bits =
+        rw (ne-eqb _ _ (λ e. h .nonzero (h .own ∙ e)))
+        (sym (lone-number B (p .settings .rows) (p .settings .columns) here (h .mined) (number-place h) f (h .own) (h .nonzero) (h .safe) beside around-it))
+
+    number-opens : (bits : List ℕ)
+        → ended B 2 (leftCounts B (addLeft (desk p shown bits)) here) (opened (set shown here f) false) ≡ leftClick B here (desk p shown bits)
+    unfolding leftClick leftOpens
+    number-opens bits =
+        rw (eq-eqb _ _ (h .closed), ne-eqb (faceAt B here) 15 (λ e. h .safe (h .own ∙ e)), h .own)
+        (ap (ended B 2 (leftCounts B (addLeft (desk p shown bits)) here))
+        (opened-number B (p .settings .rows) (p .settings .columns) here shown (h .closed) (λ e. h .nonzero (h .own ∙ e)) (λ e. h .safe (h .own ∙ e))))
+
+    pub number-done : (q z : Position) → q ≡ withLeft p (p .counts .left + 1)
+        → z ≡ withSolvedLeft (withLce q (q .counts .lce + 1)) (q .secrets .«solved_left» + bit (not beside)) → (r : Played)
+        → ((past bits : List ℕ) → play r (set shown here f) bits ≡ ended B 2 (desk z past bits) (opened (set shown here f) false))
+        → (bits : List ℕ) → play r (set shown here f) bits ≡ leftClick B here (desk p shown bits)
+    number-done q z added counted r e bits = e shown bits ∙ ap (λ (d : Desk). ended B 2 d (opened (set shown here f) false)) counts ∙ number-opens bits
+      where
+        counts : desk z shown bits ≡ leftCounts B (addLeft (desk p shown bits)) here
+        counts = rw (counted, added, number-solves bits) refl
+
+-- ---- a 0 or a mine ---------------------------------------------------------------------------------------------------------------------
+
+module _ (B : List ℤ) (p : Position) (shown work : List ℕ) (i f : ℕ) (s : SpreadsAt B i f) where
+  pub spread-mine : f ≡ 15 → Adds (leftAdds B i) p shown work p work
+  spread-mine m = λ bits. record { outcome = simp (eq-eqb _ _ (sym (s .own) ∙ m)); same = refl }
+
+  pub spread-zero : (f ≡ 15 → ⊥) → (solves : Bool) (r : Position) (work′ : List ℕ)
+      → Leaves solves (judgedLeft B (p .settings .rows) (p .settings .columns) shown i) work work′
+      → r ≡ withSolvedLeft (withLce p (p .counts .lce + 1)) (p .secrets .«solved_left» + bit solves) → Adds (leftAdds B i) p shown work r work′
   unfolding solvesLeft
-  solves-zero z = simp (eq-eqb _ _ (sym face ∙ z))
-
-  pub solves-number : (f ≡ 0 → ⊥) → solvesLeft B d i ≡ loneAt B (rowsOf d) (columnsOf d) i
-  unfolding solvesLeft
-  solves-number n = simp (ne-eqb _ _ (λ e. n (face ∙ e)))
-
-module _ (B : List ℤ) (p : Position) (shown work : List ℕ) (i f : ℕ) (face : f ≡ faceAt B i) where
-  pub left-mine : f ≡ 15 → Adds (leftAdds B i) p shown work p work
-  left-mine m = record { outcome = λ bits. simp (eq-eqb _ _ (sym face ∙ m)); same = refl }
-
-  pub left-safe : (f ≡ 15 → ⊥) → (one : ℕ) (solves : Bool) (q r : Position) (work′ : List ℕ) → solves ≡ solvesLeft B (desk p shown []) i → one ≡ bit solves
-      → q ≡ withLce p (p .counts .lce + 1) → r ≡ withSolvedLeft q (p .secrets .«solved_left» + one) → work′ ≡ work → Adds (leftAdds B i) p shown work r work′
-  unfolding solvesLeft
-  left-safe n one solves q r work′ s o e h w =
-      record { outcome = λ bits. simp (ne-eqb _ _ (λ m. n (face ∙ m)), h, e, o, s); same = w }
+  spread-zero n solves r work′ j e =
+      λ bits. record { outcome = simp (ne-eqb _ _ (λ m. n (s .own ∙ m)), eq-eqb _ _ (sym (s .own) ∙ s .zero n), e, j .outcome); same = j .same }
 
 -- a left click's counts leave the size
 left-settings : (B : List ℤ) (i : ℕ) (d : Desk) → leftAdds B i d .position .settings ≡ d .position .settings
@@ -58,40 +118,21 @@ left-opens B i d = go (mineAt B i)
     go true = refl
     go false = refl
 
-module _ (B : List ℤ) (p : Position) (shown work : List ℕ) (i : ℕ) (q : Position) (added : q ≡ withLeft p (p .counts .left + 1)) where
-  pub left-idle : (getD shown i 0 ≡ 10 → ⊥) → Acts (leftClick B i) p shown work (record { answer = 0; position = q }) shown work
-  unfolding leftClick
-  left-idle n = record { outcome = λ bits. simp (ne-eqb _ _ n, added); same = refl }
+module _ (B : List ℤ) (i : ℕ) (p z : Position) (shown work work′ : List ℕ) (a : Adds (leftAdds B i) p shown work z work′) where
+  counted-settings : z .settings ≡ p .settings
+  counted-settings = ap (λ (d : Desk). d .position .settings) (a [] .outcome) ∙ left-settings B i (desk p shown [])
 
-  pub left-laid : Laid B p shown work → Laid B q shown work
-  left-laid l = rw added (laid-same l refl refl)
+  -- what opening the cell by itself asks
+  pub spread-asks : (c : Cells) → Collected (i ∷ []) 1 c → LaidAt B p shown work → i < p .settings .rows * p .settings .columns
+      → LaidAt B z shown work′ × ((c .n ≤ 8) × Below (z .settings .rows * z .settings .columns) (stackOf (c .at) (c .n)))
+  spread-asks c k l h = (rw (counted-settings, a [] .same) l, (omega (arith, k .most), rw (counted-settings, k .stack) (h, tt)))
 
-  module _ (z : Position) (work′ : List ℕ) (a : Adds (leftAdds B i) q shown work z work′) where
-    counted-settings : z .settings ≡ p .settings
-    counted-settings = ap (λ (d : Desk). d .position .settings) (a .outcome []) ∙ left-settings B i (desk q shown []) ∙ ap (λ (x : Position). x .settings) added
-
-    pub left-counted : Laid B p shown work → Laid B z shown work′
-    left-counted l = laid-same l counted-settings (a .same)
-
-    pub left-place : i < p .settings .rows * p .settings .columns → i < z .settings .rows * z .settings .columns
-    left-place h = rw counted-settings h
-
-    pub left-done : getD shown i 0 ≡ 10 → (r : Played) (shown′ work″ : List ℕ)
-        → Acts (opensWith B 2 (i ∷ [])) z shown work′ r shown′ work″ → Acts (leftClick B i) p shown work r shown′ work″
-    unfolding leftClick
-    left-done ten r shown′ work″ o = record { outcome = λ bits. o .outcome bits ∙ way bits; same = o .same ∙ a .same }
-      where
-        start : (bits : List ℕ) → leftOpens B i (desk q shown bits) ≡ leftClick B i (desk p shown bits)
-        start bits = simp (eq-eqb _ _ ten, added)
-
-        way : (bits : List ℕ) → opensWith B 2 (i ∷ []) (desk z shown bits) ≡ leftClick B i (desk p shown bits)
-        way bits = ap (opensWith B 2 (i ∷ [])) (a .outcome bits) ∙ left-opens B i (desk q shown bits) ∙ start bits
-
--- a cell by itself is on the board
-pub only-below : (n i : ℕ) (c : Cells) → Collected (i ∷ []) 1 c → i < n → (c .n ≤ 8) × Below n (stackOf (c .at) (c .n))
-only-below n i c k h = (omega (arith, k .most), rw (k .stack) (h, tt))
-
-pub only-opens : (B : List ℤ) (i : ℕ) (c : Cells) (p : Position) (shown work : List ℕ) → Collected (i ∷ []) 1 c → (r : Played) (shown′ work′ : List ℕ)
-    → Acts (opensWith B 2 (stackOf (c .at) (c .n))) p shown work r shown′ work′ → Acts (opensWith B 2 (i ∷ [])) p shown work r shown′ work′
-only-opens B i c p shown work k r shown′ work′ a =
-    record { outcome = λ bits. a .outcome bits ∙ ap (λ (st : List ℕ). opensWith B 2 st (desk p shown bits)) (k .stack); same = a .same }
+  pub spread-done : (c : Cells) → Collected (i ∷ []) 1 c → (r : Played) (shown′ work″ : List ℕ) → Acts (opensWith B 2 (stackOf (c .at) (c .n))) z shown work′ r shown′ work″
+      → Acts (leftOpens B i) p shown work r shown′ work″
+  spread-done c k r shown′ work″ o = λ bits. record { outcome = o bits .outcome ∙ way bits; same = o bits .same ∙ a bits .same }
+    where
+      way : (bits : List ℕ) → opensWith B 2 (stackOf (c .at) (c .n)) (desk z shown bits) ≡ leftOpens B i (desk p shown bits)
+      way bits =
+          ap (λ (st : List ℕ). opensWith B 2 st (desk z shown bits)) (k .stack)
+          ∙ ap (opensWith B 2 (i ∷ [])) (a bits .outcome)
+          ∙ left-opens B i (desk p shown bits)

@@ -1,27 +1,30 @@
 // The left click, and how every opening ends.
-// The contracts cite rules' Clicks, and specs/Room for what the clicks require and how their outcomes read.
+// The contracts cite rules' Clicks, and specs/Parts for what the parts of a left click ask and do.
 ghost use mathlib.Core.Path.{_≡_};
-ghost use mathlib.Core.Bool.{true};
 ghost use mathlib.Core.List.{List, [], _∷_};
 ghost use Prim.Native.Nat.{ℕ, _+_, _*_, _<_, _≤_};
-ghost use lib.ListN.{length, getD};
-ghost use Rattle.rules.specs.Words.{stackOf};
-ghost use Rattle.rules.specs.Board.{faceAt};
-ghost use Rattle.rules.specs.Clicks.{desk, done, ended, solvesLeft, leftClick};
+ghost use lib.ListN.{length};
+ghost use Rattle.rules.specs.Words.{stackOf, bit};
+ghost use Rattle.rules.specs.States.{withLeft, withLce, withSolvedLeft};
+ghost use Rattle.rules.specs.Grid.{cellOf};
+ghost use Rattle.rules.specs.Clicks.{desk, ended, leftOpens, leftClick};
 ghost use Rattle.cells.specs.Ground.{Valued, Below};
-ghost use Rattle.judging.specs.Parts.{Lent};
-ghost use Rattle.clicks.specs.Room.{Laid, LeftRoom, Acts, Adds, opensWith, leftAdds, Collected};
+ghost use Rattle.cells.specs.Contracts.{LaidAt, RoomAt, play, Acts};
+ghost use Rattle.opening.specs.Parts.{opened};
+ghost use Rattle.clicks.specs.Parts.{NumberAt, SpreadsAt, Told, Adds, opensWith, leftAdds, Collected};
 use rules::Cells;
 use rules::GameState;
 use rules::Played;
 use rules::Position;
+
+// ---- opening ---------------------------------------------------------------------------------------------------------------------------
 
 // How an opening ends: a mine is Loss and 4; else the win is tested, and the answer is the one given.
 fn end_opening(p: Position, mines: &[i8], shown: &[u8], near: usize, hit: bool, n: u16) -> Played
     requires { ⌜ length (now mines) ≡ length (now shown) ⌝ }
     requires { ⌜ Valued (now mines) ⌝ }
     requires { ⌜ near ≤ length (now shown) ⌝ }
-    ensures { λ r. ⌜ ((past bits : List ℕ) → done (r .answer) (desk (r .position) (now (shown .entry)) bits) ≡ ended (now (mines .entry)) n (desk p past bits) (record { shown = now (shown .entry); hit = hit })) ⌝ }
+    ensures { λ r. ⌜ ((past bits : List ℕ) → play r (now (shown .entry)) bits ≡ ended (now (mines .entry)) n (desk p past bits) (opened (now (shown .entry)) hit)) ⌝ }
 {
     if hit {
         let q = p.with_game(GameState::Loss);
@@ -65,7 +68,7 @@ pub fn open_cells(
     cells: Cells,
     n: u16,
 ) -> Played
-    requires { ⌜ Laid (now mines) p (now shown) (now work) ⌝ }
+    requires { ⌜ LaidAt (now mines) p (now shown) (now work) ⌝ }
     requires { ⌜ cells .n ≤ 8 ⌝ }
     requires { ⌜ Below (p .settings .rows * p .settings .columns) (stackOf (cells .at) (cells .n)) ⌝ }
     ensures { λ r. ⌜ Acts (opensWith (now (mines .entry)) n (stackOf (cells .at) (cells .n))) p (now (shown .entry)) (now (work .entry)) r (now (shown .exit)) (now (work .exit)) ⌝ }
@@ -77,45 +80,73 @@ pub fn open_cells(
     end_opening(p, mines, shown, near, hit, n)
 }
 
-// A number with no 0 neighbour, or a 0 whose opening has no cell showing 11.
-fn solves_left(
+// ---- left ------------------------------------------------------------------------------------------------------------------------------
+
+pub fn add_left(p: Position) -> Position
+    requires { ⌜ p .counts .left ≤ 70000 ⌝ }
+    ensures { λ r. ⌜ r ≡ withLeft p (p .counts .left + 1) ⌝ }
+{
+    let n = p.counts.left + 1;
+    p.with_left(n)
+}
+
+// lce + 1, and solved_left where the cell solves.
+fn left_counts(p: Position, solves: bool) -> Position
+    requires { ⌜ (p .counts .lce ≤ 70000) × (p .secrets .«solved_left» ≤ 1000000) ⌝ }
+    ensures { λ r. ⌜ r ≡ withSolvedLeft (withLce p (p .counts .lce + 1)) (p .secrets .«solved_left» + bit solves) ⌝ }
+{
+    let one = cells::one_if(solves);
+    let k = p.counts.lce + 1;
+    let q = p.with_lce(k);
+    let n = p.secrets.solved_left + one;
+    q.with_solved_left(n)
+}
+
+// LEFT on a closed number: it is shown, and opens nothing more.
+pub fn left_number(
+    p: Position,
+    mines: &[i8],
+    shown: &mut [u8],
+    row: usize,
+    column: usize,
+    face: u8,
+) -> Played
+    requires { ⌜ NumberAt (now mines) (p .settings) (now shown) row column face ⌝ }
+    requires { ⌜ RoomAt p (now shown) ⌝ }
+    ensures { λ r. ⌜ ((bits : List ℕ) → play r (now (shown .exit)) bits ≡ leftClick (now (mines .entry)) (cellOf (p .settings .columns) row column) (desk p (now (shown .entry)) bits)) ⌝ }
+{
+    let rows = p.settings.rows as usize;
+    let columns = p.settings.columns as usize;
+    let beside = cells::zero_beside(mines, rows, columns, row, column);
+    let q = add_left(p);
+    let z = left_counts(q, !beside);
+    let cell = row * columns + column;
+    shown[cell] = face;
+    end_opening(z, mines, shown, cell, false, 2)
+}
+
+// A mine counts nothing; the opening of a 0 is judged before it opens.
+fn spread_counts(
     p: Position,
     mines: &[i8],
     shown: &[u8],
     work: &mut [u16],
     cell: usize,
     face: u8,
-) -> bool
-    requires { ⌜ Laid (now mines) p (now shown) (now work) ⌝ }
-    requires { ⌜ cell < p .settings .rows * p .settings .columns ⌝ }
-    requires { ⌜ face ≡ faceAt (now mines) cell ⌝ }
-    ensures { λ r. ⌜ Lent r (solvesLeft (now (mines .entry)) (desk p (now (shown .entry)) []) cell) (now (work .entry)) (now (work .exit)) ⌝ }
-{
-    let rows = p.settings.rows as usize;
-    let columns = p.settings.columns as usize;
-    if face == 0 {
-        return judging::cell_is_op_completed(mines, shown, work, rows, columns, cell);
-    }
-    lones::cell_is_bbbv(mines, rows, columns, cell)
-}
-
-// lce + 1 and solved_left, judged before opening; a mine counts nothing.
-fn left_counts(p: Position, mines: &[i8], shown: &[u8], work: &mut [u16], cell: usize) -> Position
-    requires { ⌜ Laid (now mines) p (now shown) (now work) ⌝ }
+) -> Position
+    requires { ⌜ LaidAt (now mines) p (now shown) (now work) ⌝ }
     requires { ⌜ cell < p .settings .rows * p .settings .columns ⌝ }
     requires { ⌜ (p .counts .lce ≤ 70000) × (p .secrets .«solved_left» ≤ 1000000) ⌝ }
+    requires { ⌜ SpreadsAt (now mines) cell face ⌝ }
     ensures { λ r. ⌜ Adds (leftAdds (now (mines .entry)) cell) p (now (shown .entry)) (now (work .entry)) r (now (work .exit)) ⌝ }
 {
-    let f = cells::face_at(mines, cell);
-    if f == 15 {
+    if face == 15 {
         return p;
     }
-    let solves = solves_left(p, mines, shown, work, cell, f);
-    let one = cells::one_if(solves);
-    let k = p.counts.lce + 1;
-    let q = p.with_lce(k);
-    let n = p.secrets.solved_left + one;
-    q.with_solved_left(n)
+    let rows = p.settings.rows as usize;
+    let columns = p.settings.columns as usize;
+    let solves = judging::cell_is_op_completed(mines, shown, work, rows, columns, cell);
+    left_counts(p, solves)
 }
 
 // A cell by itself.
@@ -130,8 +161,28 @@ fn only(cell: usize) -> Cells
     }
 }
 
+// A closed 0 or mine is opened, and ends with 2 where it is no mine.
+fn left_spreads(
+    p: Position,
+    mines: &[i8],
+    shown: &mut [u8],
+    work: &mut [u16],
+    cell: usize,
+    face: u8,
+) -> Played
+    requires { ⌜ LaidAt (now mines) p (now shown) (now work) ⌝ }
+    requires { ⌜ cell < p .settings .rows * p .settings .columns ⌝ }
+    requires { ⌜ (p .counts .lce ≤ 70000) × (p .secrets .«solved_left» ≤ 1000000) ⌝ }
+    requires { ⌜ SpreadsAt (now mines) cell face ⌝ }
+    ensures { λ r. ⌜ Acts (leftOpens (now (mines .entry)) cell) p (now (shown .entry)) (now (work .entry)) r (now (shown .exit)) (now (work .exit)) ⌝ }
+{
+    let z = spread_counts(p, mines, shown, work, cell, face);
+    let one = only(cell);
+    open_cells(z, mines, shown, work, one, 2)
+}
+
 pub fn is_number(face: u8) -> bool
-    ensures { λ r. ⌜ (r ≡ true → (face ≡ 0 → ⊥) × (face ≡ 15 → ⊥)) ⌝ }
+    ensures { λ r. ⌜ Told face r ⌝ }
 {
     if face == 0 {
         return false;
@@ -142,43 +193,33 @@ pub fn is_number(face: u8) -> bool
     true
 }
 
-// Opens a closed cell, and ends with 2 where it is no mine. A number is shown, and opens nothing more.
-fn open_cell(p: Position, mines: &[i8], shown: &mut [u8], work: &mut [u16], cell: usize) -> Played
-    requires { ⌜ Laid (now mines) p (now shown) (now work) ⌝ }
-    requires { ⌜ cell < p .settings .rows * p .settings .columns ⌝ }
-    requires { ⌜ getD (now shown) cell 0 ≡ 10 ⌝ }
-    ensures { λ r. ⌜ Acts (opensWith (now (mines .entry)) 2 (cell ∷ [])) p (now (shown .entry)) (now (work .entry)) r (now (shown .exit)) (now (work .exit)) ⌝ }
-{
-    let face = cells::face_at(mines, cell);
-    if is_number(face) {
-        shown[cell] = face;
-        return end_opening(p, mines, shown, cell, false, 2);
-    }
-    let one = only(cell);
-    open_cells(p, mines, shown, work, one, 2)
-}
-
 // LEFT: left + 1; unless the cell shows 10, answer 0; a mine: 15, Loss, 4; else open it, lce + 1, test for the win, 2.
 pub fn left_click(
     p: Position,
     mines: &[i8],
     shown: &mut [u8],
     work: &mut [u16],
-    cell: usize,
+    row: usize,
+    column: usize,
 ) -> Played
-    requires { ⌜ Laid (now mines) p (now shown) (now work) ⌝ }
-    requires { ⌜ cell < p .settings .rows * p .settings .columns ⌝ }
-    requires { ⌜ LeftRoom p ⌝ }
-    ensures { λ r. ⌜ Acts (leftClick (now (mines .entry)) cell) p (now (shown .entry)) (now (work .entry)) r (now (shown .exit)) (now (work .exit)) ⌝ }
+    requires { ⌜ LaidAt (now mines) p (now shown) (now work) ⌝ }
+    requires { ⌜ RoomAt p (now shown) ⌝ }
+    requires { ⌜ (row < p .settings .rows) × (column < p .settings .columns) ⌝ }
+    ensures { λ r. ⌜ Acts (leftClick (now (mines .entry)) (cellOf (p .settings .columns) row column)) p (now (shown .entry)) (now (work .entry)) r (now (shown .exit)) (now (work .exit)) ⌝ }
 {
-    let n = p.counts.left + 1;
-    let q = p.with_left(n);
+    let columns = p.settings.columns as usize;
+    let cell = row * columns + column;
     if shown[cell] != 10 {
+        let q = add_left(p);
         return Played {
             answer: 0,
             position: q,
         };
     }
-    let z = left_counts(q, mines, shown, work, cell);
-    open_cell(z, mines, shown, work, cell)
+    let face = cells::face_at(mines, cell);
+    if is_number(face) {
+        return left_number(p, mines, shown, row, column, face);
+    }
+    let q = add_left(p);
+    left_spreads(q, mines, shown, work, cell, face)
 }

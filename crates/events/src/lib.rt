@@ -7,7 +7,7 @@ ghost use Rattle.rules.specs.declared.GameState.the-variants.{PreFlaging};
 ghost use Rattle.rules.specs.States.{mouseNumber};
 ghost use Rattle.rules.specs.Step.{byGame};
 ghost use Rattle.keep.specs.Kept.{InsideOf};
-ghost use Rattle.buttons.specs.Able.{AbleAt, Plays};
+ghost use Rattle.cells.specs.Contracts.{AbleAt, Plays};
 use rules::Event;
 use rules::GameState;
 use rules::Played;

@@ -22,7 +22,7 @@ use Rattle.cells.specs.Ground.{Valued, Below, Zeros}
 use Rattle.cells.proofs.Words.{stack-below}
 use Rattle.bits.proofs.Bits.{bit-length}
 use Rattle.opening.proofs.Cost.{closed-set, closed-pos}
-use Rattle.clicks.specs.Room.{closedIn}
+use Rattle.cells.specs.Contracts.{closedIn}
 use Rattle.flagging.specs.Listing.{Flaggable, Flags}
 
 -- a flag can be counted where a cell is closed

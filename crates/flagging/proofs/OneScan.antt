@@ -22,8 +22,8 @@ use Rattle.opening.specs.Changed.{In}
 use Rattle.opening.proofs.Lists.{count-sum, in-pushed, neighbour-pushed}
 use Rattle.opening.proofs.Cases.{closed-in}
 use Rattle.cells.specs.Stack.{Grown}
+use Rattle.cells.specs.Contracts.{Prepared, Leaves}
 use Rattle.flagging.specs.Listing.{Flaggable, Flags}
-use Rattle.flagging.specs.Passing.{Prepared, Leaves}
 use Rattle.flagging.proofs.Grows.{listed-below}
 use Rattle.flagging.proofs.Signed.{all-closed-true, all-closed-yes}
 use Rattle.flagging.proofs.Flagging.{flag-yes, flag-no, even-all}
@@ -202,7 +202,7 @@ module _ (B : List ℤ) (d : Desk) (w w₁ : List ℕ) (n : ℕ) (p : Prepared B
       let b : Below (length (d .shown)) (stackOf w₁ n) = rw (g .stack) (listed-below (rowsOf d) (columnsOf d) (d .shown) (cellsOf d)) in (
         f .mined .valued,
         (
-          record { board = m; bytes = rw (f .mined .long) (p .bytes); flags = p .room .flag },
+          record { board = m; bytes = let k = p .bytes in omega (arith, f .mined .long); flags = p .room .flag },
           (omega (arith, g .most, f .room, l), rw m at b),
         ),
       )

@@ -6,7 +6,7 @@ use lib.ListN.{length}
 use Rattle.rules.specs.Clicks.{Desk}
 use Rattle.cells.specs.Ground.{Zeros}
 use Rattle.cells.specs.Stack.{Rest}
-use Rattle.clicks.specs.Room.{closedIn}
+use Rattle.cells.specs.Contracts.{closedIn}
 
 -- the shown board and the bits have their lengths, and a flag on every closed cell can be counted
 pub record Flaggable (cells : ℕ) (d : Desk) : Type 0 where

@@ -11,9 +11,9 @@ ghost use Rattle.rules.specs.Opening.{closedAt};
 ghost use Rattle.rules.specs.Clicks.{desk};
 ghost use Rattle.rules.specs.Passes.{remainder, allClosed, ripeAt, listed, flagOne, flagAll, flagPass};
 ghost use Rattle.cells.specs.Ground.{Sized, Valued, Below};
+ghost use Rattle.cells.specs.Contracts.{Prepared, Leaves};
 ghost use Rattle.cells.specs.Stack.{Grown};
 ghost use Rattle.flagging.specs.Listing.{Flaggable, Flags};
-ghost use Rattle.flagging.specs.Passing.{Prepared, Leaves};
 use rules::Position;
 
 // What is left of a number after its flags: signed.

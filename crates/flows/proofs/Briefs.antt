@@ -22,7 +22,7 @@ use Rattle.rules.specs.Step.{eventRefusal, errsPlaying, playing, eventOf, plain
 use Rattle.cells.proofs.Words.{and-left, and-right}
 use Rattle.keep.specs.Kept.{LawfulAt, Inside}
 use Rattle.keep.proofs.Passes.{playing-is}
-use Rattle.buttons.specs.Able.{Plays}
+use Rattle.cells.specs.Contracts.{Plays}
 use Rattle.brief.specs.declared.Brief.{Brief}
 use Rattle.brief.specs.declared.Brief.the-variants.{Done, Other}
 use Rattle.brief.specs.Briefly.{Briefly}
@@ -80,9 +80,9 @@ module _ (B : List ℤ) (code r c : ℕ) (p : Position) (shown bits : List ℕ) 
   brief-other b shown′ bits′ e h = subst (λ (x : Brief). Briefly B code r c p shown bits x shown′ bits′) e h
 
 -- a desk that is as it was
-module _ {p : Position} {shown bits shown′ bits′ : List ℕ} (e : shown′ ≡ shown) (f : bits′ ≡ bits) where
-  pub lawful-same : {B : List ℤ} → LawfulAt B (desk p shown bits) → LawfulAt B (desk p shown′ bits′)
-  lawful-same {B} l = subst⁻¹ (λ (s : List ℕ). LawfulAt B (desk p s bits′)) e (subst⁻¹ (λ (b : List ℕ). LawfulAt B (desk p shown b)) f l)
+module _ {shown bits shown′ bits′ : List ℕ} (e : shown′ ≡ shown) (f : bits′ ≡ bits) where
+  pub lawful-same : {B : List ℤ} {p : Position} → LawfulAt B (desk p shown bits) → LawfulAt B (desk p shown′ bits′)
+  lawful-same {B} {p} l = subst⁻¹ (λ (s : List ℕ). LawfulAt B (desk p s bits′)) e (subst⁻¹ (λ (b : List ℕ). LawfulAt B (desk p shown b)) f l)
 
-  pub plays-same : {F : Desk → Play} {work : List ℕ} {r : Played} {shown″ bits″ work″ : List ℕ} → Plays F p shown′ bits′ work r shown″ bits″ work″ → Plays F p shown bits work r shown″ bits″ work″
-  plays-same {F} h = record { outcome = h .outcome ∙ ap F (ap (λ (s : List ℕ). desk p s bits′) e ∙ ap (λ (b : List ℕ). desk p shown b) f); same = h .same }
+  pub desk-same : (p : Position) → desk p shown bits ≡ desk p shown′ bits′
+  desk-same p = sym (ap (λ (s : List ℕ). desk p s bits′) e ∙ ap (λ (b : List ℕ). desk p shown b) f)

@@ -7,7 +7,7 @@ ghost use lib.ListN.{length, getD};
 ghost use Rattle.rules.specs.Clicks.{desk};
 ghost use Rattle.rules.specs.Step.{stepOn};
 ghost use Rattle.keep.specs.Kept.{LawfulAt};
-ghost use Rattle.buttons.specs.Able.{Plays};
+ghost use Rattle.cells.specs.Contracts.{Plays};
 ghost use Rattle.game.specs.Core.{Blank, flowOn};
 ghost use Rattle.flows.specs.Runs.{moveAt, Moves};
 use brief::Brief;

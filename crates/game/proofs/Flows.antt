@@ -15,7 +15,7 @@ use Rattle.rules.specs.Step.{stepOn}
 use Rattle.rules.specs.Calls.{plays, lastPlay}
 use Rattle.keep.specs.Kept.{LawfulAt, Follows}
 use Rattle.keep.proofs.Step.{step-follows}
-use Rattle.buttons.specs.Able.{Plays}
+use Rattle.cells.specs.Contracts.{Plays}
 use Rattle.game.specs.Core.{Blank}
 
 -- a play as the code holds it

@@ -4,9 +4,8 @@ use mathlib.Core.Bool.{Bool, true}
 use mathlib.Core.List.{List}
 use Prim.Native.Nat.{ℕ, _+_, _<_, _≤_}
 use native.Mathlib.Omega.{arith}
-use native.Mathlib.Decide.{decLt}
 use borrow.Author.Tests.{eq-eqb, ne-eqb, lt-ltb, le-ltb}
-use lib.ListN.{length, getD, List·getD-eq-default}
+use lib.ListN.{length, getD}
 use lib.IntN.{ℤ}
 use Rattle.rules.specs.declared.Position.{Position}
 use Rattle.rules.specs.declared.Played.{Played}
@@ -24,44 +23,19 @@ use Rattle.rules.specs.Clicks.{Desk, Play, desk, done}
 use Rattle.rules.specs.Mouse.{resolved, flipped}
 use Rattle.rules.specs.Step.{eventRefusal, badPreFlag, errsPreFlaging, errsPlaying, ready, preFlaging, playing, eventOf, plainOf, byGame, pointerOf, refusalAt, playAt, stepAt, stepBy, stepOn, mouse}
 use Rattle.keep.specs.Kept.{LawfulAt, Inside, InsideOf}
-use Rattle.opening.proofs.Cost.{closed-most}
-use Rattle.keep.proofs.Reshow.{flag-has}
-use Rattle.keep.proofs.Room.{sound-small, preflags-has}
+use Rattle.keep.proofs.Room.{preflags-has}
+use Rattle.keep.proofs.Able.{eleven-in, lawful-room}
 use Rattle.keep.proofs.Step.{event-inside}
-use Rattle.buttons.specs.Able.{AbleAt}
+use Rattle.cells.specs.Contracts.{AbleAt}
 use Rattle.game.specs.Core.{Blank}
-
--- an 11 is shown on the board only
-eleven-in : (shown : List ℕ) (i : ℕ) → getD shown i 0 ≡ 11 → i < length shown
-eleven-in shown i e = go (decLt i (length shown))
-  where
-    go : Dec (i < length shown) → i < length shown
-    go (yes h) = h
-    go (no h) = absurd (let z = List·getD-eq-default {A = ℕ} shown 0 {n = i} (omega arith) in omega arith)
 
 pub able-lawful : (B : List ℤ) (p : Position) (shown bits work : List ℕ) → LawfulAt B (desk p shown bits) → Blank (p .settings) work → AbleAt B p shown bits work
 able-lawful B p shown bits work l b =
-    let h = l .kept .sound in
-    let g = h .ground in
-    let s = sound-small h in
-    let few = l .few in
-    let c = closed-most shown in
-    let z = g .mined .sized .cells in
-    let e = g .board in
+    let g = l .kept .sound .ground in
     record {
-      fits = record { mined = g .mined; board = g .board; room = b .room };
-      zeros = b .zeros;
+      laid = record { fits = record { mined = g .mined; board = g .board; room = b .room }; zeros = b .zeros };
       bytes = g .room;
-      left = omega (arith, s .left);
-      right = omega (arith, s .right);
-      double = omega (arith, s .double);
-      lce = omega (arith, s .lce);
-      dce = omega (arith, s .dce);
-      rce = omega (arith, s .rce);
-      solvedLeft = omega (arith, s .solved);
-      flag = omega (arith, s .flag);
-      solved = omega (arith, s .solved);
-      flagged = λ i q. flag-has h i (eleven-in shown i q) q;
+      room = lawful-room l;
     }
 
 five : (m : MouseState) → mouseNumber m ≡ 5 → isNotFlag m ≡ true

@@ -8,7 +8,7 @@ ghost use Rattle.rules.specs.States.{withEvents};
 ghost use Rattle.rules.specs.Clicks.{desk};
 ghost use Rattle.rules.specs.Step.{playAt, stepOn};
 ghost use Rattle.keep.specs.Kept.{Inside, LawfulAt};
-ghost use Rattle.buttons.specs.Able.{Plays};
+ghost use Rattle.cells.specs.Contracts.{Plays};
 ghost use Rattle.game.specs.Core.{Blank, refusalOn};
 use rules::Decoded;
 use rules::Played;

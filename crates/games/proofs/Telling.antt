@@ -16,7 +16,7 @@ use Rattle.rules.specs.Clicks.{Desk, Play, desk}
 use Rattle.rules.specs.Calls.{plays}
 use Rattle.rules.specs.Printout.{eventLine, eventLines}
 use Rattle.keep.specs.Kept.{LawfulAt}
-use Rattle.buttons.specs.Able.{Plays}
+use Rattle.cells.specs.Contracts.{Plays}
 use Rattle.game.proofs.Flows.{Flowing, held, three, eventAt, flow-on, flow-refused, flow-cells, flow-bytes, flow-start, flow-end, event-left}
 use Rattle.writing.specs.Put.{PutWithin}
 use Rattle.writing.proofs.Putting.{Leads, leads-start, leads-turn, leads-done}

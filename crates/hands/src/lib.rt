@@ -1,11 +1,10 @@
 // The right click and the chord by hand, which the passes follow.
-// The contracts cite rules' Passes; specs/ has what the hand adds to.
+// The contracts cite rules' Passes; specs/Hand has the count of a chord.
 ghost use mathlib.Core.Path.{_≡_};
 ghost use Prim.Native.Nat.{_*_, _<_, _≤_};
-ghost use Rattle.rules.specs.Clicks.{desk, done};
 ghost use Rattle.rules.specs.Passes.{rightClick, chordingClick};
-ghost use Rattle.passes.specs.Passing.{Prepared, Leaves};
-ghost use Rattle.hands.specs.Hand.{RightRoom, ChordRoom, counted};
+ghost use Rattle.cells.specs.Contracts.{AbleAt, Plays};
+ghost use Rattle.hands.specs.Hand.{counted};
 use rules::Played;
 use rules::Position;
 
@@ -18,22 +17,19 @@ pub fn right_click(
     work: &mut [u16],
     cell: usize,
 ) -> Played
-    requires { ⌜ Prepared (now mines) (desk p (now shown) (now bits)) (now work) ⌝ }
+    requires { ⌜ AbleAt (now mines) p (now shown) (now bits) (now work) ⌝ }
     requires { ⌜ cell < p .settings .rows * p .settings .columns ⌝ }
-    requires { ⌜ RightRoom p (now shown) cell ⌝ }
-    ensures { λ r. ⌜ Leaves (done (r .answer) (desk (r .position) (now (shown .exit)) (now (bits .exit)))) (rightClick (now (mines .entry)) cell (desk p (now (shown .entry)) (now (bits .entry)))) (now (work .entry)) (now (work .exit)) ⌝ }
+    ensures { λ r. ⌜ Plays (rightClick (now (mines .entry)) cell) p (now (shown .entry)) (now (bits .entry)) (now (work .entry)) r (now (shown .exit)) (now (bits .exit)) (now (work .exit)) ⌝ }
 {
-    let n = p.counts.right + 1;
-    let q = p.with_right(n);
     if shown[cell] == 10 {
-        let f = marking::flag(q, mines, shown, bits, cell);
+        let f = marking::flag(p, mines, shown, bits, cell);
         let position = passes::passes_after_flag(f, mines, shown, bits, work);
         return Played {
             answer: 1,
             position,
         };
     }
-    marking::take_back(q, shown, cell)
+    marking::take_back(p, shown, cell)
 }
 
 // A chord by hand that opened adds to dce.
@@ -62,10 +58,9 @@ pub fn chording_click(
     work: &mut [u16],
     cell: usize,
 ) -> Played
-    requires { ⌜ Prepared (now mines) (desk p (now shown) (now bits)) (now work) ⌝ }
+    requires { ⌜ AbleAt (now mines) p (now shown) (now bits) (now work) ⌝ }
     requires { ⌜ cell < p .settings .rows * p .settings .columns ⌝ }
-    requires { ⌜ ChordRoom p ⌝ }
-    ensures { λ r. ⌜ Leaves (done (r .answer) (desk (r .position) (now (shown .exit)) (now (bits .exit)))) (chordingClick (now (mines .entry)) cell (desk p (now (shown .entry)) (now (bits .entry)))) (now (work .entry)) (now (work .exit)) ⌝ }
+    ensures { λ r. ⌜ Plays (chordingClick (now (mines .entry)) cell) p (now (shown .entry)) (now (bits .entry)) (now (work .entry)) r (now (shown .exit)) (now (bits .exit)) (now (work .exit)) ⌝ }
 {
     let n = p.counts.double + 1;
     let q = p.with_double(n);

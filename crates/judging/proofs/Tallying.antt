@@ -18,7 +18,7 @@ use Rattle.cells.specs.Ground.{Zeros}
 use Rattle.cells.proofs.Words.{stack-length}
 use Rattle.judging.specs.declared.Sum.{Sum}
 use Rattle.cells.specs.Stack.{Rest}
-use Rattle.judging.specs.Parts.{marksOf, Went, Judged, Tallied, ChordJudged}
+use Rattle.judging.specs.Parts.{marksOf, Went, Judged, Tallied}
 use Rattle.lones.specs.Counts.{LoneRow}
 use Rattle.judging.proofs.Marks.{marks-none}
 use Rattle.judging.proofs.Judging.{judge-marked, judge-number, judge-zero, judged-length, length-below}
@@ -123,11 +123,6 @@ chord-few B R C shown at k w w′ sum t = rw (stack-length at k) at (tallied-few
 
 pub board-few : (B : List ℤ) (R C : ℕ) (shown : List ℕ) (k : ℕ) (w w′ : List ℕ) (sum : Sum) → Tallied B R C shown (below k) w w′ sum → sum .count ≤ k
 board-few B R C shown k w w′ sum t = rw (length-below k) at (tallied-few B R C shown (below k) w w′ sum t)
-
-pub chord-judged : (B : List ℤ) (R C : ℕ) (shown at : List ℕ) (n : ℕ) (w w′ : List ℕ) (sum : Sum) (w″ : List ℕ) → n ≤ 8 → Tallied B R C shown (stackOf at n) w w′ sum → w″ ≡ w
-    → ChordJudged B R C shown (stackOf at n) (sum .count) w w″
-chord-judged B R C shown at n w w′ sum w″ h t e =
-    record { answer = tallied-count B R C shown (stackOf at n) w w′ sum t; few = let f = chord-few B R C shown at n w w′ sum t in omega arith; same = e }
 
 -- ---- the total -----------------------------------------------------------------------------------------------------------------------
 

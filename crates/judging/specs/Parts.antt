@@ -8,7 +8,7 @@ use lib.IntN.{ℤ}
 use Rattle.rules.specs.Words.{stackOf}
 use Rattle.rules.specs.Grid.{pushed}
 use Rattle.rules.specs.Lent.{workRoom}
-use Rattle.rules.specs.Judging.{freeAt, kind, stackBy, marksBy, wholeBy, walkFrom, judgeOne, tally, openingsJudged}
+use Rattle.rules.specs.Judging.{freeAt, kind, stackBy, marksBy, wholeBy, walkFrom, judgeOne, tally}
 use Rattle.cells.specs.Ground.{Mined}
 use Rattle.cells.specs.Stack.{Rest}
 use Rattle.judging.specs.declared.Sum.{Sum}
@@ -50,14 +50,3 @@ pub record Tallied (B : List ℤ) (R C : ℕ) (shown st w w′ : List ℕ) (sum 
   pub rest : Rest (workRoom (R * C)) w w′
   pub long : length w′ ≡ length w
   pub still : sum .walked ≡ false → w′ ≡ w
-
--- an answer came back, and the work as it was lent
-pub record Lent {A : Type 0} (r value : A) (w w′ : List ℕ) : Type 0 where
-  pub answer : r ≡ value
-  pub same : w′ ≡ w
-
--- the same of a chord's cells, at most eight
-pub record ChordJudged (B : List ℤ) (R C : ℕ) (shown cells : List ℕ) (r : ℕ) (w w′ : List ℕ) : Type 0 where
-  pub answer : r ≡ openingsJudged B R C shown cells
-  pub few : r ≤ 8
-  pub same : w′ ≡ w

@@ -8,10 +8,11 @@ ghost use lib.ListN.{length, getD, set};
 ghost use Rattle.rules.specs.Words.{stackOf, below};
 ghost use Rattle.rules.specs.Grid.{pushIf, pushed};
 ghost use Rattle.rules.specs.Lent.{workRoom};
-ghost use Rattle.rules.specs.Judging.{freeAt, judgedLeft, total3bv};
-ghost use Rattle.cells.specs.Ground.{Sized, Mined, Fitting, Zeros, Below};
+ghost use Rattle.rules.specs.Judging.{freeAt, judgedLeft, openingsJudged, total3bv};
+ghost use Rattle.cells.specs.Ground.{Sized, Mined, Zeros, Below};
+ghost use Rattle.cells.specs.Contracts.{Laid, Leaves};
 ghost use Rattle.cells.specs.Stack.{Grown};
-ghost use Rattle.judging.specs.Parts.{stackRoom, marksOf, Walkable, Stepped, Went, Judged, Tallied, Lent, ChordJudged};
+ghost use Rattle.judging.specs.Parts.{stackRoom, marksOf, Walkable, Stepped, Went, Judged, Tallied};
 
 // The cell q is on the board and has no mark.
 fn free(work: &[u16], size: usize, q: usize) -> bool
@@ -161,10 +162,9 @@ pub fn cell_is_op_completed(
     columns: usize,
     cell: usize,
 ) -> bool
-    requires { ⌜ Fitting (now mines) (now shown) (now work) rows columns ⌝ }
-    requires { ⌜ Zeros (workRoom (rows * columns)) (now work) ⌝ }
+    requires { ⌜ Laid (now mines) (now shown) (now work) rows columns ⌝ }
     requires { ⌜ cell < rows * columns ⌝ }
-    ensures { λ r. ⌜ Lent r (judgedLeft (now (mines .entry)) rows columns (now (shown .entry)) cell) (now (work .entry)) (now (work .exit)) ⌝ }
+    ensures { λ r. ⌜ Leaves r (judgedLeft (now (mines .entry)) rows columns (now (shown .entry)) cell) (now (work .entry)) (now (work .exit)) ⌝ }
 {
     let whole = walk(mines, shown, work, rows, columns, cell);
     cells::clear(work, 8 * (rows * columns) + 8);
@@ -247,11 +247,10 @@ pub fn op_num_around_cell(
     columns: usize,
     cells: rules::Cells,
 ) -> usize
-    requires { ⌜ Fitting (now mines) (now shown) (now work) rows columns ⌝ }
-    requires { ⌜ Zeros (workRoom (rows * columns)) (now work) ⌝ }
+    requires { ⌜ Laid (now mines) (now shown) (now work) rows columns ⌝ }
     requires { ⌜ cells .n ≤ 8 ⌝ }
     requires { ⌜ Below (rows * columns) (stackOf (cells .at) (cells .n)) ⌝ }
-    ensures { λ r. ⌜ ChordJudged (now (mines .entry)) rows columns (now (shown .entry)) (stackOf (cells .at) (cells .n)) r (now (work .entry)) (now (work .exit)) ⌝ }
+    ensures { λ r. ⌜ Leaves r (openingsJudged (now (mines .entry)) rows columns (now (shown .entry)) (stackOf (cells .at) (cells .n))) (now (work .entry)) (now (work .exit)) ⌝ }
 {
     let at = cells.at;
     let sum = judge_cells(mines, shown, work, rows, columns, at, cells.n);
@@ -283,7 +282,7 @@ pub fn total_3bv(mines: &[i8], work: &mut [u16], rows: usize, columns: usize) ->
     requires { ⌜ Mined (now mines) rows columns ⌝ }
     requires { ⌜ workRoom (rows * columns) ≤ length (now work) ⌝ }
     requires { ⌜ Zeros (workRoom (rows * columns)) (now work) ⌝ }
-    ensures { λ r. ⌜ Lent r (total3bv (now (mines .entry)) rows columns) (now (work .entry)) (now (work .exit)) ⌝ }
+    ensures { λ r. ⌜ Leaves r (total3bv (now (mines .entry)) rows columns) (now (work .entry)) (now (work .exit)) ⌝ }
 {
     let none = [0u8; 0];
     let openings = judge_board(mines, &none, work, rows, columns);

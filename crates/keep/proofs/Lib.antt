@@ -13,3 +13,4 @@ pub mod States
 pub mod Step
 pub mod Room
 pub mod Calls
+pub mod Able

@@ -1,12 +1,14 @@
-// The right click's flag: set, with the bit of its mine, and taken back.
+// The right click but for the passes that follow it: a flag set, with the bit of its mine, and taken back.
 // The contracts cite rules' Clicks, and specs/Mark for what marking a mine leaves.
 ghost use mathlib.Core.Path.{_≡_};
 ghost use mathlib.Core.List.{List};
 ghost use Prim.Native.Nat.{ℕ, _+_, _/_, _<_, _≤_};
-ghost use lib.ListN.{length, getD};
+ghost use lib.ListN.{length};
 ghost use Rattle.rules.specs.Words.{pick};
-ghost use Rattle.rules.specs.Clicks.{desk, done, flagged, takeBack};
+ghost use Rattle.rules.specs.States.{withRight};
+ghost use Rattle.rules.specs.Clicks.{desk, addRight, flagged, takeBack};
 ghost use Rattle.cells.specs.Ground.{Valued};
+ghost use Rattle.cells.specs.Contracts.{RoomAt, play};
 ghost use Rattle.marking.specs.Mark.{Marked};
 use rules::Played;
 use rules::Position;
@@ -30,17 +32,26 @@ pub fn mark_mine(mines: &[i8], bits: &mut [u8], cell: usize) -> u32
     1
 }
 
-// 10 to 11.
+pub fn add_right(p: Position) -> Position
+    requires { ⌜ p .counts .right ≤ 70000 ⌝ }
+    ensures { λ r. ⌜ r ≡ withRight p (p .counts .right + 1) ⌝ }
+{
+    let n = p.counts.right + 1;
+    p.with_right(n)
+}
+
+// RIGHT on a closed cell, before the passes: right + 1, 10 to 11.
 pub fn flag(p: Position, mines: &[i8], shown: &mut [u8], bits: &mut [u8], cell: usize) -> Position
     requires { ⌜ (cell < length (now mines)) × (cell < length (now shown)) × (cell / 8 < length (now bits)) ⌝ }
     requires { ⌜ Valued (now mines) ⌝ }
-    requires { ⌜ (p .counts .flag ≤ 70000) × (p .secrets .rce ≤ 70000) ⌝ }
-    ensures { λ r. ⌜ desk r (now (shown .exit)) (now (bits .exit)) ≡ flagged (now (mines .entry)) cell (desk p (now (shown .entry)) (now (bits .entry))) ⌝ }
+    requires { ⌜ RoomAt p (now shown) ⌝ }
+    ensures { λ r. ⌜ desk r (now (shown .exit)) (now (bits .exit)) ≡ flagged (now (mines .entry)) cell (addRight (desk p (now (shown .entry)) (now (bits .entry)))) ⌝ }
 {
     shown[cell] = 11;
     let new = mark_mine(mines, bits, cell);
+    let y = add_right(p);
     let n = p.counts.flag + 1;
-    let q = p.with_flag(n);
+    let q = y.with_flag(n);
     let k = p.secrets.rce + new;
     q.with_rce(k)
 }
@@ -55,18 +66,19 @@ fn after_flag(question: bool) -> u8
     10
 }
 
-// 11 to 17 or 10, 17 to 10; on an open cell nothing.
+// RIGHT on a cell that is not closed: right + 1; 11 to 17 or 10, 17 to 10, on an open cell nothing.
 pub fn take_back(p: Position, shown: &mut [u8], cell: usize) -> Played
     requires { ⌜ cell < length (now shown) ⌝ }
-    requires { ⌜ (getD (now shown) cell 0 ≡ 11 → 1 ≤ p .counts .flag) ⌝ }
-    ensures { λ r. ⌜ ((bits : List ℕ) → done (r .answer) (desk (r .position) (now (shown .exit)) bits) ≡ takeBack cell (desk p (now (shown .entry)) bits)) ⌝ }
+    requires { ⌜ RoomAt p (now shown) ⌝ }
+    ensures { λ r. ⌜ ((bits : List ℕ) → play r (now (shown .exit)) bits ≡ takeBack cell (addRight (desk p (now (shown .entry)) bits))) ⌝ }
 {
+    let y = add_right(p);
     let v = shown[cell];
     if v == 11 {
         let to = after_flag(p.settings.question);
         shown[cell] = to;
         let n = p.counts.flag - 1;
-        let q = p.with_flag(n);
+        let q = y.with_flag(n);
         return Played {
             answer: 1,
             position: q,
@@ -76,11 +88,11 @@ pub fn take_back(p: Position, shown: &mut [u8], cell: usize) -> Played
         shown[cell] = 10;
         return Played {
             answer: 1,
-            position: p,
+            position: y,
         };
     }
     Played {
         answer: 0,
-        position: p,
+        position: y,
     }
 }

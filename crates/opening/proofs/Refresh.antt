@@ -15,10 +15,11 @@ use Rattle.rules.specs.Board.{faceAt}
 use Rattle.rules.specs.Lent.{workRoom}
 use Rattle.rules.specs.Opening.{run, turns, Opened, wrongFlag, crossed, crossedIfHit, refreshed}
 use Rattle.rules.specs.Lawful.{countShown, shows}
-use Rattle.cells.specs.Ground.{Below, Zeros, Fitting}
+use Rattle.cells.specs.Ground.{Below, Fitting}
+use Rattle.cells.specs.Contracts.{Laid, Leaves}
 use Rattle.cells.proofs.Words.{stack-length}
 use Rattle.opening.specs.Quick.{Front, front, touchedAll, quickFrom}
-use Rattle.opening.specs.Parts.{Spare, Roomy, Moved, Worked, Refreshed}
+use Rattle.opening.specs.Parts.{Spare, Roomy, Moved, Worked, opened}
 use Rattle.opening.proofs.Cost.{closed-most}
 use Rattle.opening.proofs.Quick.{quick-same}
 use Rattle.opening.proofs.Touching.{all-height, all-below}
@@ -60,31 +61,32 @@ crossed-more B shown₀ shown shown′ i s e =
 -- ---- the whole ----------------------------------------------------------------------------------------------------------------------------
 
 -- at the start the stack is empty and has room
-pub roomy-start : (B : List ℤ) (shown w : List ℕ) (R C : ℕ) → Fitting B shown w R C → Roomy B shown w 0
-roomy-start B shown w R C f =
+pub roomy-start : (B : List ℤ) (shown w : List ℕ) (R C : ℕ) → Laid B shown w R C → Roomy B shown w 0
+roomy-start B shown w R C l =
+    let f = l .fits in
     let c = closed-most shown in
     let z = f .mined .sized .cells in
     record { valued = f .mined .valued; same = f .mined .long ∙ sym (f .board); small = omega (arith, f .board); room = omega (arith, f .board, f .room) }
 
 module _ (B : List ℤ) (R C : ℕ) (given : List ℕ) (n : ℕ) (shown w shown₁ w₁ : List ℕ) (t₁ : ℕ) (hit₁ : Bool)
-    (f : Fitting B shown w R C) (z : Zeros (workRoom (R * C)) w) (few : n ≤ 8)
+    (l : Laid B shown w R C) (few : n ≤ 8)
     (m : Moved (touchedAll B (stackOf given n) (front [] shown false)) w 0 shown₁ w₁ t₁ hit₁) (long : length w₁ ≡ length w) where
   low : t₁ + countShown (shows 10) shown₁ ≤ R * C
-  low = let h = all-height B (stackOf given n) shown w shown₁ w₁ t₁ hit₁ (f .mined .valued) m in let c = closed-most shown in omega (arith, f .board)
+  low = let h = all-height B (stackOf given n) shown w shown₁ w₁ t₁ hit₁ (l .fits .mined .valued) m in let c = closed-most shown in omega (arith, l .fits .board)
 
   after : (length (touchedAll B (stackOf given n) (front [] shown false) .shown) ≡ R * C) × Below (R * C) (touchedAll B (stackOf given n) (front [] shown false) .stack)
-  after = all-below B (stackOf given n) (R * C) (front [] shown false) (f .board) tt
+  after = all-below B (stackOf given n) (R * C) (front [] shown false) (l .fits .board) tt
 
   pub work-asks : Fitting B shown₁ w₁ R C × ((t₁ + countShown (shows 10) shown₁ ≤ R * C) × (Below (R * C) (stackOf w₁ t₁) × Spare t₁ (workRoom (R * C)) w₁))
   work-asks = (
-    record { mined = f .mined; board = ap (λ (s : Front). length (s .shown)) (m .stands) ∙ after .0; room = rw long (f .room) },
-    (low, (rw (ap (λ (s : Front). s .stack) (m .stands)) (after .1), λ i le lt. m .frame i le ∙ z i lt)),
+    record { mined = l .fits .mined; board = ap (λ (s : Front). length (s .shown)) (m .stands) ∙ after .0; room = rw long (l .fits .room) },
+    (low, (rw (ap (λ (s : Front). s .stack) (m .stands)) (after .1), λ i le lt. m .frame i le ∙ l .zeros i lt)),
   )
 
   module _ (shown′ w₂ : List ℕ) (hit : Bool) (d : Worked B R C t₁ shown₁ w₁ hit₁ shown′ w₂ hit) (k : length w₂ ≡ length w₁) where
     same : run B R C (turns (R * C)) (stackOf given n) shown false ≡ record { shown = shown′; hit = hit }
     same =
-        sym (quick-same B R C (f .mined .valued) (stackOf given n) shown (f .board) (let l = stack-length given n in omega arith))
+        sym (quick-same B R C (l .fits .mined .valued) (stackOf given n) shown (l .fits .board) (let h = stack-length given n in omega arith))
         ∙ sym (ap (quickFrom B R C (R * C)) (m .stands))
         ∙ d .outcome
 
@@ -97,24 +99,20 @@ module _ (B : List ℤ) (R C : ℕ) (given : List ℕ) (n : ℕ) (shown w shown�
     work-back = ext-getD 0 w₂ w (k ∙ long) (λ i lt. go i (ltb i (workRoom (R * C))) refl)
       where
         go : (i : ℕ) (b : Bool) → ltb i (workRoom (R * C)) ≡ b → getD w₂ i 0 ≡ getD w i 0
-        go i true e = let h = ltb-true _ _ e in d .clear i h ∙ sym (z i h)
-        go i false e = let h = ltb-false _ _ e in let l = low in d .rest i h ∙ m .frame i (omega arith)
+        go i true e = let h = ltb-true _ _ e in d .clear i h ∙ sym (l .zeros i h)
+        go i false e = let h = ltb-false _ _ e in let h′ = low in d .rest i h ∙ m .frame i (omega arith)
 
-    pub refreshed-hit : (shown″ : List ℕ) → hit ≡ true → shown″ ≡ crossed B (length shown′) shown′ → Refreshed B R C (stackOf given n) shown w shown″ w₂ hit
-    refreshed-hit shown″ e s = record { outcome = rw s (go hit e) ∙ settles; work = work-back }
+    pub refreshed-hit : (shown″ : List ℕ) → hit ≡ true → shown″ ≡ crossed B (length shown′) shown′
+        → Leaves (opened shown″ hit) (refreshed B R C (stackOf given n) shown) w w₂
+    refreshed-hit shown″ e s = record { outcome = rw s (go hit e) ∙ settles; same = work-back }
       where
-        go : (b : Bool) → b ≡ true → _≡_ {A = Opened} (record { shown = crossed B (length shown′) shown′; hit = b }) (crossedIfHit B (record { shown = shown′; hit = b }))
+        go : (b : Bool) → b ≡ true → opened (crossed B (length shown′) shown′) b ≡ crossedIfHit B (opened shown′ b)
         go true e = refl
         go false e = absurd (false≢true e)
 
-    pub refreshed-safe : hit ≡ false → Refreshed B R C (stackOf given n) shown w shown′ w₂ hit
-    refreshed-safe e = record { outcome = go hit e ∙ settles; work = work-back }
+    pub refreshed-safe : hit ≡ false → Leaves (opened shown′ hit) (refreshed B R C (stackOf given n) shown) w w₂
+    refreshed-safe e = record { outcome = go hit e ∙ settles; same = work-back }
       where
-        go : (b : Bool) → b ≡ false → _≡_ {A = Opened} (record { shown = shown′; hit = b }) (crossedIfHit B (record { shown = shown′; hit = b }))
+        go : (b : Bool) → b ≡ false → opened shown′ b ≡ crossedIfHit B (opened shown′ b)
         go true e = absurd (true≢false e)
         go false e = refl
-
--- ONE OUTCOME: any two outcomes that the contract allows are equal
-pub refreshed-one : (B : List ℤ) (R C : ℕ) (given shown w shown₁ w₁ : List ℕ) (hit₁ : Bool) (shown₂ w₂ : List ℕ) (hit₂ : Bool)
-    → Refreshed B R C given shown w shown₁ w₁ hit₁ → Refreshed B R C given shown w shown₂ w₂ hit₂ → (_≡_ {A = Opened} (record { shown = shown₁; hit = hit₁ }) (record { shown = shown₂; hit = hit₂ })) × (w₁ ≡ w₂)
-refreshed-one B R C given shown w shown₁ w₁ hit₁ shown₂ w₂ hit₂ a b = (a .outcome ∙ sym (b .outcome), a .work ∙ sym (b .work))

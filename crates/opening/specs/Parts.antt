@@ -7,7 +7,7 @@ use lib.ListN.{length, getD}
 use lib.IntN.{ℤ}
 use Rattle.rules.specs.Words.{stackOf}
 use Rattle.rules.specs.Lent.{workRoom}
-use Rattle.rules.specs.Opening.{Opened, refreshed}
+use Rattle.rules.specs.Opening.{Opened}
 use Rattle.rules.specs.Lawful.{countShown, shows}
 use Rattle.cells.specs.Ground.{Sized, Valued, Zeros}
 use Rattle.opening.specs.Quick.{Front, front, quick}
@@ -45,7 +45,6 @@ pub record Worked (B : List ℤ) (R C t : ℕ) (shown w : List ℕ) (hit : Bool)
   pub clear : Zeros (workRoom (R * C)) w′
   pub rest : Rest (workRoom (R * C)) w w′
 
--- THE contract of opening: the outcome is that of the definition, and the work is as it was
-pub record Refreshed (B : List ℤ) (R C : ℕ) (given shown w shown′ w′ : List ℕ) (hit : Bool) : Type 0 where
-  pub outcome : _≡_ {A = Opened} (record { shown = shown′; hit = hit }) (refreshed B R C given shown)
-  pub work : w′ ≡ w
+-- an opened board, and whether a mine was hit
+abbrev pub opened : List ℕ → Bool → Opened
+opened shown hit = record { shown = shown; hit = hit }

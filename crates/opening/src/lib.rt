@@ -9,11 +9,12 @@ ghost use Rattle.rules.specs.Words.{stackOf};
 ghost use Rattle.rules.specs.Grid.{cellOf};
 ghost use Rattle.rules.specs.Board.{faceAt};
 ghost use Rattle.rules.specs.Lent.{workRoom};
-ghost use Rattle.rules.specs.Opening.{closedAt, wrongFlag, crossed};
+ghost use Rattle.rules.specs.Opening.{closedAt, wrongFlag, crossed, refreshed};
 ghost use Rattle.rules.specs.Lawful.{countShown, shows};
-ghost use Rattle.cells.specs.Ground.{Valued, Fitting, Zeros, Below};
+ghost use Rattle.cells.specs.Ground.{Valued, Fitting, Below};
+ghost use Rattle.cells.specs.Contracts.{Laid, Leaves};
 ghost use Rattle.opening.specs.Quick.{front, touched, touchedAround, touchedAll};
-ghost use Rattle.opening.specs.Parts.{Spare, Roomy, Seated, Moved, Worked, Refreshed};
+ghost use Rattle.opening.specs.Parts.{Spare, Roomy, Seated, Moved, Worked, opened};
 
 // Where the stack's top is, and whether a mine was hit.
 pub struct Turn {
@@ -185,11 +186,10 @@ pub fn refresh_board(
     columns: usize,
     cells: rules::Cells,
 ) -> bool
-    requires { ⌜ Fitting (now mines) (now shown) (now work) rows columns ⌝ }
-    requires { ⌜ Zeros (workRoom (rows * columns)) (now work) ⌝ }
+    requires { ⌜ Laid (now mines) (now shown) (now work) rows columns ⌝ }
     requires { ⌜ cells .n ≤ 8 ⌝ }
     requires { ⌜ Below (rows * columns) (stackOf (cells .at) (cells .n)) ⌝ }
-    ensures { λ r. ⌜ Refreshed (now (mines .entry)) rows columns (stackOf (cells .at) (cells .n)) (now (shown .entry)) (now (work .entry)) (now (shown .exit)) (now (work .exit)) r ⌝ }
+    ensures { λ r. ⌜ Leaves (opened (now (shown .exit)) r) (refreshed (now (mines .entry)) rows columns (stackOf (cells .at) (cells .n)) (now (shown .entry))) (now (work .entry)) (now (work .exit)) ⌝ }
 {
     let given = cells.at;
     let n = cells.n;

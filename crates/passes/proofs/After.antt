@@ -10,7 +10,7 @@ use Rattle.rules.specs.Clicks.{Desk, desk}
 use Rattle.rules.specs.Passes.{flagPass, chordPass, bothPass, modeBoth, modeFlag, modeChord, passesAfterFlag, passesAfterChord}
 use Rattle.chording.specs.declared.Scanned.{Scanned}
 use Rattle.chording.specs.Scanning.{Scans}
-use Rattle.passes.specs.Passing.{Leaves}
+use Rattle.cells.specs.Contracts.{Leaves}
 
 module _ (B : List ℤ) (d : Desk) where
   pub flag-over : isPlaying (d .position .game) ≡ false → passesAfterFlag B d ≡ d
@@ -45,14 +45,7 @@ module _ (B : List ℤ) (d : Desk) where
   unfolding passesAfterChord
   chord-none e b m = simp (e, b, m)
 
--- nothing follows
-pub leaves-none : (d d′ : Desk) (w : List ℕ) → d′ ≡ d → Leaves d d′ w w
-leaves-none d d′ w e = record { outcome = sym e; same = refl }
-
--- a pass follows
-pub leaves-as : (d x y : Desk) (w w′ : List ℕ) → Leaves d x w w′ → y ≡ x → Leaves d y w w′
-leaves-as d x y w w′ l e = record { outcome = l .outcome ∙ sym e; same = l .same }
-
+-- the chord pass follows
 pub leaves-scan : (B : List ℤ) (p : Position) (shown bits w : List ℕ) (s : Scanned) (shown′ w′ : List ℕ) (y : Desk) → Scans (λ b. chordPass B (desk p shown b)) w s shown′ w′
     → y ≡ chordPass B (desk p shown bits) .desk → Leaves (desk (s .position) shown′ bits) y w w′
-leaves-scan B p shown bits w s shown′ w′ y c e = record { outcome = ap (λ x. x .desk) (c .outcome bits) ∙ sym e; same = c .same }
+leaves-scan B p shown bits w s shown′ w′ y c e = record { outcome = ap (λ x. x .desk) (c bits .outcome) ∙ sym e; same = c bits .same }

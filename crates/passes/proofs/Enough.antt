@@ -14,7 +14,7 @@ use Rattle.rules.specs.Passes.{Scan, Round, foundAny, chordOne, chordScan, chor
 use Rattle.cells.specs.Ground.{Valued}
 use Rattle.cells.proofs.Words.{rounds-keep, rounds-enough, rounds-over}
 use Rattle.opening.proofs.Cost.{closed-most}
-use Rattle.clicks.specs.Room.{closedIn}
+use Rattle.cells.specs.Contracts.{closedIn}
 use Rattle.chords.specs.Fell.{Fell, idle, fell}
 use Rattle.chords.proofs.Chord.{chord-fell}
 use Rattle.passes.specs.Passing.{going}

@@ -15,11 +15,11 @@ use Rattle.rules.specs.Passes.{Round, foundAny, flagPass, chordPass, chordChang
 use Rattle.cells.specs.Ground.{Valued}
 use Rattle.cells.proofs.Words.{and-left, Looping, left, looping-start, looping-turn, looping-less, looping-done}
 use Rattle.opening.proofs.Cost.{closed-most}
-use Rattle.clicks.specs.Room.{Laid, Roomy, closedIn}
+use Rattle.cells.specs.Contracts.{closedIn, LaidAt, PassRoomAt, Bytes, Prepared, Leaves}
 use Rattle.chording.specs.declared.Scanned.{Scanned}
 use Rattle.passes.specs.declared.Passed.{Passed}
 use Rattle.chording.specs.Scanning.{Scans}
-use Rattle.passes.specs.Passing.{Prepared, Leaves, round, going}
+use Rattle.passes.specs.Passing.{round, going}
 use Rattle.flagging.proofs.Flagging.{Even, even-all}
 use Rattle.flagging.proofs.OneScan.{found, flag-pass-once}
 use Rattle.chording.proofs.Chording.{Sits, sits-start, laid-on, spent-pass}
@@ -51,7 +51,7 @@ pub like-prepared : (B : List ℤ) (d₀ d : Desk) (w₀ w : List ℕ) → Prepa
 like-prepared B d₀ d w₀ w p l e =
     record {
       laid = laid-on B (d₀ .position) (d₀ .shown) w₀ (p .laid) d w (l .sits) e;
-      bytes = subst⁻¹ (λ (st : Settings). st .rows * st .columns ≤ 8 * length (d .bits)) (l .sits .settings) (rw (l .bytes) (p .bytes));
+      bytes = subst⁻¹ (λ (st : Settings). Bytes st (d .bits)) (l .sits .settings) (l .bytes ∙ p .bytes);
       room = l .sits .room;
     }
 
@@ -91,7 +91,7 @@ module _ (B : List ℤ) (v : Valued B) (st : Settings) (n : ℕ) where
 
 -- the code's turn, from its passes
 module _ (B : List ℤ) (d d₁ : Desk) (w w₁ : List ℕ) (p : Prepared B d w) (f : Leaves d₁ (flagPass B d) w w₁) where
-  pub turn-asks : Laid B (d₁ .position) (d₁ .shown) w₁ × Roomy (d₁ .position) (d₁ .shown)
+  pub turn-asks : LaidAt B (d₁ .position) (d₁ .shown) w₁ × PassRoomAt (d₁ .position) (d₁ .shown)
   turn-asks =
       let l : Like (d .position .settings) (length (d .bits)) d₁ =
       subst⁻¹ (λ (x : Desk). Like (d .position .settings) (length (d .bits)) x) (f .outcome) (flag-like B (d .position .settings) (length (d .bits)) d (like-start B d w p)) in
@@ -104,9 +104,9 @@ module _ (B : List ℤ) (d d₁ : Desk) (w w₁ : List ℕ) (p : Prepared B d w)
   turn-is s shown w₂ r c q e =
       record {
         outcome =
-            ap₂ (λ (x : Position) (b : Bool). turned (desk x shown (d₁ .bits)) b) q e ∙ ap chordChanged (c .outcome (d₁ .bits))
+            ap₂ (λ (x : Position) (b : Bool). turned (desk x shown (d₁ .bits)) b) q e ∙ ap chordChanged (c (d₁ .bits) .outcome)
             ∙ ap (λ (x : Desk). chordChanged (chordPass B x)) (f .outcome);
-        same = c .same ∙ f .same;
+        same = c (d₁ .bits) .same ∙ f .same;
       }
 
 -- ---- the turns -----------------------------------------------------------------------------------------------------------------------------

@@ -1,12 +1,10 @@
--- What both passes by turns require and ensure.
+-- A round of both passes, as the code has it.
 use mathlib.Core.Bool.{true}
 use mathlib.Core.List.{List}
 use Prim.Native.Nat.{ℕ}
 use Rattle.rules.specs.Clicks.{Desk, desk}
 use Rattle.rules.specs.Passes.{Round}
 use Rattle.passes.specs.declared.Passed.{Passed}
--- the desk is prepared as for one pass, and left so
-pub use Rattle.flagging.specs.Passing.{Prepared, Leaves}
 
 -- a round of both passes in the code, with the shown board and the bits
 abbrev pub round : Passed → List ℕ → List ℕ → Round

@@ -5,7 +5,8 @@ ghost use mathlib.Core.Bool.{_||_};
 ghost use lib.Dec.{eqb};
 ghost use Rattle.rules.specs.Clicks.{desk};
 ghost use Rattle.rules.specs.Passes.{bothRound, bothPass, passesAfterFlag, passesAfterChord};
-ghost use Rattle.passes.specs.Passing.{Prepared, Leaves, round, going};
+ghost use Rattle.cells.specs.Contracts.{Prepared, Leaves};
+ghost use Rattle.passes.specs.Passing.{round, going};
 use rules::Position;
 
 // A position, and whether the chord pass changed something while the game goes on.

@@ -5,7 +5,7 @@ ghost use Prim.Native.Nat.{_≤_};
 ghost use Rattle.rules.specs.States.{mouseNumber};
 ghost use Rattle.rules.specs.Step.{playing as playingOf, playRc};
 ghost use Rattle.keep.specs.Kept.{Inside, InsideOf};
-ghost use Rattle.buttons.specs.Able.{AbleAt, Plays};
+ghost use Rattle.cells.specs.Contracts.{AbleAt, Plays};
 use rules::Event;
 use rules::MouseState;
 use rules::Played;

@@ -6,7 +6,7 @@ ghost use lib.ListN.{getD};
 ghost use Rattle.rules.specs.States.{mouseNumber};
 ghost use Rattle.rules.specs.Step.{preLeft, preLr, preFlaging as preFlagingOf};
 ghost use Rattle.keep.specs.Kept.{Inside, InsideOf};
-ghost use Rattle.buttons.specs.Able.{AbleAt, Plays};
+ghost use Rattle.cells.specs.Contracts.{AbleAt, Plays};
 use rules::Event;
 use rules::GameState;
 use rules::Played;
@@ -32,7 +32,7 @@ fn pre_left(
             let q = p.with_game(GameState::Playing);
             return buttons::left_at(q, x, mines, &mut *shown, &mut *work);
         }
-        let q = buttons::add_left(p);
+        let q = clicks::add_left(p);
         return Played {
             answer: 0,
             position: q,
@@ -45,7 +45,7 @@ fn pre_left(
             position: q,
         };
     }
-    let q = buttons::add_left(p);
+    let q = clicks::add_left(p);
     Played {
         answer: 0,
         position: q,

@@ -10,7 +10,7 @@ ghost use Rattle.rules.specs.Clicks.{desk, done};
 ghost use Rattle.rules.specs.Passes.{rightClick};
 ghost use Rattle.rules.specs.Step.{cleared, clearedIf, lastTakenBack, preCell, preRight, preFlag, move, backIf, backToReady, preRc};
 ghost use Rattle.keep.specs.Kept.{Inside};
-ghost use Rattle.buttons.specs.Able.{AbleAt, Plays};
+ghost use Rattle.cells.specs.Contracts.{AbleAt, Plays};
 use rules::GameState;
 use rules::MouseState;
 use rules::Played;
@@ -60,7 +60,7 @@ fn pre_question(
     ensures { λ r. ⌜ Plays (λ d. clearedIf (eqb (d .position .preflags) 0) (rightClick (now (mines .entry)) i d)) p (now (shown .entry)) (now (bits .entry)) (now (work .entry)) r (now (shown .exit)) (now (bits .exit)) (now (work .exit)) ⌝ }
 {
     let n = p.preflags;
-    let o = buttons::right_on(p, i, mines, &mut *shown, &mut *bits, &mut *work);
+    let o = hands::right_click(p, mines, &mut *shown, &mut *bits, &mut *work, i);
     if n == 0 {
         let y = o.position;
         let q = clear(y, &mut *bits);
@@ -99,7 +99,7 @@ fn pre_cell(
     if v == 10 {
         let n = p.preflags + 1;
         let q = p.with_preflags(n);
-        return buttons::right_on(q, i, mines, &mut *shown, &mut *bits, &mut *work);
+        return hands::right_click(q, mines, &mut *shown, &mut *bits, &mut *work, i);
     }
     if v == 11 {
         if is_last(p) {
@@ -111,7 +111,7 @@ fn pre_cell(
         }
         let n = p.preflags - 1;
         let q = p.with_preflags(n);
-        return buttons::right_on(q, i, mines, &mut *shown, &mut *bits, &mut *work);
+        return hands::right_click(q, mines, &mut *shown, &mut *bits, &mut *work, i);
     }
     pre_question(p, i, mines, &mut *shown, &mut *bits, &mut *work)
 }
@@ -138,7 +138,7 @@ fn pre_right(
         }
         Pointer::Off => {
             let q = p.with_mouse(MouseState::UpDownNotFlag);
-            let z = buttons::add_right(q);
+            let z = marking::add_right(q);
             Played {
                 answer: 0,
                 position: z,

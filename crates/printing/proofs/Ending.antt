@@ -11,7 +11,7 @@ use Rattle.rules.specs.Judging.{total3bv, leftToSolve}
 use Rattle.rules.specs.Clicks.{desk}
 use Rattle.rules.specs.Printout.{lineOf, endLines}
 use Rattle.cells.specs.Ground.{Mined, Zeros}
-use Rattle.judging.specs.Parts.{Lent}
+use Rattle.cells.specs.Contracts.{Leaves}
 use Rattle.judging.proofs.Judging.{total-cells}
 use Rattle.game.specs.Core.{Blank}
 use Rattle.writing.specs.Put.{PutWithin}
@@ -30,13 +30,13 @@ module _ (B : List ℤ) (p : Position) {r c : ℕ} (er : r ≡ p .settings .rows
       → Mined B r c × ((workRoom (r * c) ≤ length work) × Zeros (workRoom (r * c)) work)
   ending-asks m b = (rw (er, ec) m, (rw (er, ec) (b .room), rw (er, ec) (b .zeros)))
 
-  total-is : {t : ℕ} {w w′ : List ℕ} → Lent t (total3bv B r c) w w′ → t ≡ total3bv B (p .settings .rows) (p .settings .columns)
-  total-is l = l .answer ∙ ap₂ (total3bv B) er ec
+  total-is : {t : ℕ} {w w′ : List ℕ} → Leaves t (total3bv B r c) w w′ → t ≡ total3bv B (p .settings .rows) (p .settings .columns)
+  total-is l = l .outcome ∙ ap₂ (total3bv B) er ec
 
-  pub ending-small : {t : ℕ} {w w′ : List ℕ} → Mined B (p .settings .rows) (p .settings .columns) → Lent t (total3bv B r c) w w′ → t ≤ 2048
+  pub ending-small : {t : ℕ} {w w′ : List ℕ} → Mined B (p .settings .rows) (p .settings .columns) → Leaves t (total3bv B r c) w w′ → t ≤ 2048
   ending-small m l = let a = total-cells B (p .settings .rows) (p .settings .columns) in let b = total-is l in let k = m .sized .cells in omega arith
 
-  pub ending-put : (shown : List ℕ) {t left most at q : ℕ} {w w′ out out′ : List ℕ} → Lent t (total3bv B r c) w w′
+  pub ending-put : (shown : List ℕ) {t left most at q : ℕ} {w w′ out out′ : List ℕ} → Leaves t (total3bv B r c) w w′
       → left ≡ leftToSolve t (p .secrets .«solved_left») (p .secrets .«solved_chord»)
       → PutWithin most (endText p t left shown) at out out′ q → PutWithin most (endLines B (desk p shown [])) at out out′ q
   ending-put shown l d h =

@@ -10,7 +10,7 @@ ghost use Rattle.rules.specs.States.{mouseNumber};
 ghost use Rattle.rules.specs.Clicks.{desk, done};
 ghost use Rattle.rules.specs.Step.{onCell, readyLc, readyRc, ready as readyOf};
 ghost use Rattle.keep.specs.Kept.{Inside, InsideOf};
-ghost use Rattle.buttons.specs.Able.{AbleAt, Plays};
+ghost use Rattle.cells.specs.Contracts.{AbleAt, Plays};
 use rules::Event;
 use rules::GameState;
 use rules::Played;

@@ -6,7 +6,7 @@ use Rattle.bench_face.proofs.bench_refresh_board.Tie as tie
 
 refresh-board-requires : tie.Need-refresh-board-requires
 unfolding stackOf
-refresh-board-requires c κs = (search needs, (search needs, (search needs, (search needs, Prim.tt {0}))))
+refresh-board-requires c κs = (search needs, (search needs, (search needs, Prim.tt {0})))
 
 same-length : tie.Need-same-length
 same-length c = search needs

@@ -3,7 +3,8 @@ use Rattle.rules.specs.States.{isPlaying}
 use mathlib.Core.Path.{_∙_}
 use Rattle.rules.specs.Step.{playLr, playRc, playRr}
 use Rattle.rules.specs.declared.Pointer.the-variants.{Cell}
-use Rattle.brief.proofs.Ways.{ample, left-room, on-board-by, taken, lc-turns, code-lc, code-lr, code-rc, code-rr, last-code, briefly-by}
+use Rattle.brief.proofs.Ways.{on-board-by, taken, lc-turns, code-lc, code-lr, code-rc, code-rr, last-code, briefly-by}
+use Rattle.keep.proofs.Able.{lawful-room}
 use borrow.Author.Needs.{needs}
 use Rattle.brief.proofs.play_brief.Statement.{statement}
 use Rattle.brief.proofs.play_brief.Tie as tie
@@ -30,7 +31,11 @@ returns-4 : tie.Need-returns-4
 returns-4 c = let a = (c .before .before .before .before .before .before .before .before .before .before .args) in (taken (a .p) (a .code) (a .row) (a .column) _ _ (c .before .before .before .before .before .before .before .is-button .ensures) (c .before .before .before .before .before .before .if1 .left) (c .before .before .before .before .if2 .left) (c .before .before .before .within .ensures) (c .before .before .if3 .left), lc-turns (a .mines .now) (a .code) (a .row) (a .column) (a .p) _ _ _ (c .moves .ensures) ∙ code-lc (a .mines .now) (a .code) (a .row) (a .column) (a .p) _ _ (c .before .if4 .taken))
 
 release-left-requires : tie.Need-release-left-requires
-release-left-requires c κs = let a = (c .before .before .before .before .before .before .before .before .before .before .before .args) in let m = ample _ (a .p) _ _ (c .before .before .before .before .before .before .before .before .before .before .before .pre) in (m .mined, (m .board, (on-board-by (a .p .settings) (a .row) (a .column) _ (c .before .before .before .before .within .ensures) (c .before .before .before .if3 .left), left-room m)))
+release-left-requires c κs =
+    let a = c .before .before .before .before .before .before .before .before .before .before .before .args in
+    let l = c .before .before .before .before .before .before .before .before .before .before .before .pre in
+    let g = l .kept .sound .ground in
+    (g .mined, (g .board, (on-board-by (a .p .settings) (a .row) (a .column) _ (c .before .before .before .before .within .ensures) (c .before .before .before .if3 .left), lawful-room l)))
 
 same-length : tie.Need-same-length
 same-length c = search needs

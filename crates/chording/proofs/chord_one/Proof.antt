@@ -10,7 +10,7 @@ playing-requires : tie.Need-playing-requires
 playing-requires c κs = search needs
 
 returns : tie.Need-returns
-returns c = record { outcome = λ bits. sym (one-over _ _ _ (sym (c .before .playing .ensures) ∙ not-true _ (c .if1 .taken))); same = refl }
+returns c = λ bits. record { outcome = sym (one-over _ _ _ (sym (c .before .playing .ensures) ∙ not-true _ (c .if1 .taken))); same = refl }
 
 perform-chord-requires : tie.Need-perform-chord-requires
 perform-chord-requires c κs = search needs

@@ -6,7 +6,7 @@ use native.Mathlib.Omega.{arith}
 use Rattle.rules.specs.Grid.{pushed}
 use Rattle.rules.specs.Opening.{closedAt}
 use Rattle.cells.proofs.Grid.{cellBefore-le}
-use Rattle.clicks.specs.Room.{Collected}
+use Rattle.clicks.specs.Parts.{Collected}
 use Rattle.cells.proofs.Grid.{on-grid}
 use Rattle.chords.proofs.Gather.{collected-none, collected-turn}
 use Rattle.chords.proofs.closed_around.Statement.{statement}

@@ -1,46 +1,99 @@
--- `clicks::left_click` meets its contract.
-use Rattle.clicks.proofs.Steps.{left-idle, left-laid, left-counted, left-place, left-done}
+use mathlib.Core.Path.{refl}
+use native.Mathlib.Omega.{arith}
+use Rattle.cells.proofs.Grid.{cell-lt}
+use Rattle.clicks.proofs.Steps.{added-laid, added-place, added-room, left-idle, left-closed, number-at}
 use borrow.Author.Needs.{needs}
 use Rattle.clicks.proofs.left_click.Statement.{statement}
 use Rattle.clicks.proofs.left_click.Tie as tie
+use Rattle.clicks.proofs.left_click.Reads as reads
+use Rattle.clicks.proofs.left_click.Lts as lts
+use Rattle.cells.proofs.face_at.Reads as face-at-reads
+use Rattle.clicks.proofs.add_left.Reads as add-left-reads
+use Rattle.clicks.proofs.is_number.Reads as is-number-reads
+use Rattle.clicks.proofs.left_number.Reads as left-number-reads
+use Rattle.clicks.proofs.left_spreads.Reads as left-spreads-reads
 
-add-n : tie.Need-add-n
-add-n c = search needs
+-- src/lib.rt:210:19
+cast-columns : tie.Need-cast-columns
+cast-columns c = search needs
 
-with-left-requires : tie.Need-with-left-requires
-with-left-requires c κs = search needs
+-- src/lib.rt:211:16
+mul-cell : tie.Need-mul-cell
+mul-cell c = let i = cell-lt (c .before .before .before .args .p .settings .rows) (c .before .before .before .args .p .settings .columns) (c .before .before .before .args .row) (c .before .before .before .args .column) (c .before .before .before .pre .1 .1 .0) (c .before .before .before .pre .1 .1 .1) in omega (arith, c .before .before .before .pre .0 .fits .mined .sized .cells)
 
+-- src/lib.rt:211:16
+add-cell : tie.Need-add-cell
+add-cell c = let i = cell-lt (c .before .before .before .args .p .settings .rows) (c .before .before .before .args .p .settings .columns) (c .before .before .before .args .row) (c .before .before .before .args .column) (c .before .before .before .pre .1 .1 .0) (c .before .before .before .pre .1 .1 .1) in omega (arith, c .before .before .before .pre .0 .fits .mined .sized .cells)
+
+-- src/lib.rt:212:8
 slice-read-if1 : tie.Need-slice-read-if1
-slice-read-if1 c = search needs
+slice-read-if1 c = let i = cell-lt (c .before .before .before .before .args .p .settings .rows) (c .before .before .before .before .args .p .settings .columns) (c .before .before .before .before .args .row) (c .before .before .before .before .args .column) (c .before .before .before .before .pre .1 .1 .0) (c .before .before .before .before .pre .1 .1 .1) in omega (arith, c .before .before .before .before .pre .0 .fits .board)
 
+-- src/lib.rt:213:13
+add-left-requires : tie.Need-add-left-requires
+add-left-requires c κs = search needs
+
+-- src/lib.rt:214:9
 returns : tie.Need-returns
-returns c = left-idle _ _ _ _ _ _ (c .before .before .with-left .ensures) (c .if1 .taken)
+returns c = left-idle _ _ _ _ _ _ (c .add-left .ensures) (c .before .if1 .taken)
 
-left-counts-requires : tie.Need-left-counts-requires
-left-counts-requires c κs = (left-laid _ _ _ _ (c .before .before .before .before .before .before .before .before .args .cell) _ (c .before .before .before .before .with-left .ensures) (c .before .before .before .before .before .before .before .before .pre .0), rw (c .before .before .before .before .with-left .ensures) (c .before .before .before .before .before .before .before .before .pre .1 .0, (c .before .before .before .before .before .before .before .before .pre .1 .1 .lce, c .before .before .before .before .before .before .before .before .pre .1 .1 .solved)))
+-- src/lib.rt:219:9
+face-at-requires : tie.Need-face-at-requires
+face-at-requires c κs = let i = cell-lt (c .before .before .before .before .before .args .p .settings .rows) (c .before .before .before .before .before .args .p .settings .columns) (c .before .before .before .before .before .args .row) (c .before .before .before .before .before .args .column) (c .before .before .before .before .before .pre .1 .1 .0) (c .before .before .before .before .before .pre .1 .1 .1) in (omega (arith, c .before .before .before .before .before .pre .0 .fits .mined .long), c .before .before .before .before .before .pre .0 .fits .mined .valued)
 
-open-cell-requires : tie.Need-open-cell-requires
-open-cell-requires c κs = let a = (c .before .before .before .before .before .before .before .before .before .before .before .before .before .args) in (left-counted (a .mines .now) _ _ _ (a .cell) _ (c .before .before .before .before .before .before .before .before .before .with-left .ensures) _ _ (c .before .before .before .before .left-counts .ensures) (c .before .before .before .before .before .before .before .before .before .before .before .before .before .pre .0), (left-place (a .mines .now) _ _ _ (a .cell) _ (c .before .before .before .before .before .before .before .before .before .with-left .ensures) _ _ (c .before .before .before .before .left-counts .ensures) (c .before .before .before .before .before .before .before .before .before .before .before .before .before .pre .1 .0), c .before .before .before .before .before .before .before .if1 .left))
+-- src/lib.rt:220:8
+is-number-requires : tie.Need-is-number-requires
+is-number-requires c κs = search needs
 
+-- src/lib.rt:221:9
+left-number-requires : tie.Need-left-number-requires
+left-number-requires c κs = (number-at _ (c .before .before .before .before .before .before .before .before .before .pre .0) (c .before .before .before .before .before .before .before .before .before .pre .1 .1) (c .before .before .before .before .if1 .left) (c .before .before .before .face-at .ensures) (c .before .before .is-number .ensures .yes (c .before .if2 .taken)), c .before .before .before .before .before .before .before .before .before .pre .1 .0)
+
+-- src/lib.rt:221:9
 same-length : tie.Need-same-length
 same-length c = search needs
 
+-- src/lib.rt:221:9
+returns-2 : tie.Need-returns-2
+returns-2 c = λ bits. record { outcome = c .before .before .left-number .ensures bits; same = refl }
+
+-- src/lib.rt:223:9
+add-left-requires-2 : tie.Need-add-left-requires-2
+add-left-requires-2 c κs = search needs
+
+-- src/lib.rt:224:5
+left-spreads-requires : tie.Need-left-spreads-requires
+left-spreads-requires c κs = (added-laid (c .before .before .before .before .before .before .before .before .before .before .before .args .p) _ (c .before .before .add-left2 .ensures) (c .before .before .before .before .before .before .before .before .before .before .before .pre .0), (added-place (c .before .before .before .before .before .before .before .before .before .before .before .args .p) _ (c .before .before .add-left2 .ensures) _ (cell-lt _ _ _ _ (c .before .before .before .before .before .before .before .before .before .before .before .pre .1 .1 .0) (c .before .before .before .before .before .before .before .before .before .before .before .pre .1 .1 .1)), (added-room (c .before .before .before .before .before .before .before .before .before .before .before .args .p) _ (c .before .before .add-left2 .ensures) (c .before .before .before .before .before .before .before .before .before .before .before .pre .1 .0), record { own = c .before .before .before .before .before .face-at .ensures; zero = c .before .before .before .before .is-number .ensures .no (c .before .before .before .if2 .left) })))
+
+-- src/lib.rt:197:1
 same-length-2 : tie.Need-same-length-2
 same-length-2 c = search needs
 
-returns-2 : tie.Need-returns-2
-returns-2 c = left-done _ _ _ _ _ _ (c .before .before .before .before .before .before .before .before .before .before .before .before .before .before .with-left .ensures) _ _ (c .before .before .before .before .before .before .before .before .before .left-counts .ensures) (c .before .before .before .before .before .before .before .before .before .before .before .before .if1 .left) _ _ _ (c .before .before .before .before .open-cell .ensures)
+-- src/lib.rt:197:1
+same-length-3 : tie.Need-same-length-3
+same-length-3 c = search needs
+
+-- src/lib.rt:197:1
+returns-3 : tie.Need-returns-3
+returns-3 c = left-closed _ _ _ _ _ _ (c .before .before .before .before .before .before .before .add-left2 .ensures) (c .before .before .before .before .before .before .before .before .before .before .before .if1 .left) _ _ _ (c .before .before .before .before .left-spreads .ensures)
 
 pub left-click-spec : {M : Type 1} → statement M
 left-click-spec =
     tie.close
     (tie.spec
-    add-n
-    with-left-requires
+    cast-columns
+    mul-cell
+    add-cell
     slice-read-if1
+    add-left-requires
     returns
-    left-counts-requires
-    open-cell-requires
+    face-at-requires
+    is-number-requires
+    left-number-requires
     same-length
+    returns-2
+    add-left-requires-2
+    left-spreads-requires
     same-length-2
-    returns-2)
+    same-length-3
+    returns-3)

@@ -26,7 +26,7 @@ same-length-2 : tie.Need-same-length-2
 same-length-2 c = search needs
 
 returns : tie.Need-returns
-returns c = opened-ends _ _ _ _ _ _ _ _ _ _ (c .before .before .before .before .before .before .before .refresh-board .ensures .outcome) (c .end-opening .ensures) (c .before .before .before .before .before .before .before .refresh-board .ensures .work)
+returns c = opened-ends _ _ _ _ _ _ _ _ _ _ (c .before .before .before .before .before .before .before .refresh-board .ensures .outcome) (c .end-opening .ensures) (c .before .before .before .before .before .before .before .refresh-board .ensures .same)
 
 pub open-cells-spec : {M : Type 1} → statement M
 open-cells-spec =

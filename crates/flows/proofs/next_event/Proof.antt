@@ -1,9 +1,11 @@
 -- `game::next_event` meets its contract.
-use mathlib.Core.Path.{refl}
+use mathlib.Core.Path.{refl, ap}
 use native.Mathlib.Omega.{arith}
 use Prim.Native.Nat.{_+_}
 use lib.ListN.{getD}
-use Rattle.flows.proofs.Briefs.{brief-played, brief-other, lawful-same, plays-same}
+use Rattle.cells.proofs.Contracts.{leaves-by}
+use Rattle.rules.specs.Step.{stepOn}
+use Rattle.flows.proofs.Briefs.{brief-played, brief-other, lawful-same, desk-same}
 use borrow.Author.Needs.{needs}
 use Rattle.flows.proofs.next_event.Statement.{statement}
 use Rattle.flows.proofs.next_event.Tie as tie
@@ -60,7 +62,7 @@ same-length-5 : tie.Need-same-length-5
 same-length-5 c = search needs
 
 returns-2 : tie.Need-returns-2
-returns-2 c = let a = (c .before .before .before .before .before .before .before .before .before .before .before .before .before .before .before .before .before .before .before .before .before .before .before .before .before .before .args) in let e = brief-other (a .mines .now) (getD (a .events .now) (a .at) 0) (getD (a .events .now) (a .at + 1) 0) (getD (a .events .now) (a .at + 2) 0) (a .p) (a .shown .now) (a .bits .now) (c .before .before .before .before .before .before .before .before .before .before .before .before .before .before .before .before .play-brief .result) (c .before .before .before .before .before .before .before .before .before .before .before .before .before .before .before .before .play-brief .last .1 .1 .1 .1 .1 .0) (c .before .before .before .before .before .before .before .before .before .before .before .before .before .before .before .before .play-brief .last .1 .1 .1 .1 .1 .1 .0) (c .before .before .before .before .before .before .before .before .before .before .enum-told .given .1) (c .before .before .before .before .before .before .before .before .before .before .before .before .before .before .before .before .play-brief .ensures) in plays-same (e .0) (e .1) (c .before .before .before .before .before .before .step-on .ensures)
+returns-2 c = let a = (c .before .before .before .before .before .before .before .before .before .before .before .before .before .before .before .before .before .before .before .before .before .before .before .before .before .before .args) in let e = brief-other (a .mines .now) (getD (a .events .now) (a .at) 0) (getD (a .events .now) (a .at + 1) 0) (getD (a .events .now) (a .at + 2) 0) (a .p) (a .shown .now) (a .bits .now) (c .before .before .before .before .before .before .before .before .before .before .before .before .before .before .before .before .play-brief .result) (c .before .before .before .before .before .before .before .before .before .before .before .before .before .before .before .before .play-brief .last .1 .1 .1 .1 .1 .0) (c .before .before .before .before .before .before .before .before .before .before .before .before .before .before .before .before .play-brief .last .1 .1 .1 .1 .1 .1 .0) (c .before .before .before .before .before .before .before .before .before .before .enum-told .given .1) (c .before .before .before .before .before .before .before .before .before .before .before .before .before .before .before .before .play-brief .ensures) in leaves-by (c .before .before .before .before .before .before .step-on .ensures) (ap (stepOn (a .mines .now) (getD (a .events .now) (a .at) 0) (getD (a .events .now) (a .at + 1) 0) (getD (a .events .now) (a .at + 2) 0)) (desk-same (e .0) (e .1) (a .p)))
 
 pub next-event-spec : {M : Type 1} → statement M
 next-event-spec =

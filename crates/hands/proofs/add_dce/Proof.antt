@@ -1,4 +1,4 @@
--- `passes::add_dce` meets its contract.
+-- `hands::add_dce` meets its contract.
 use borrow.Author.Tests.{eq-eqb, ne-eqb}
 use borrow.Author.Needs.{needs}
 use Rattle.hands.proofs.add_dce.Statement.{statement}

@@ -1,4 +1,4 @@
--- `passes::chording_click` meets its contract: the chord, its count, and the passes after it.
+-- `hands::chording_click` meets its contract: the chord, its count, and the passes after it.
 use mathlib.Core.Path.{_∙_}
 use native.Mathlib.Omega.{arith}
 use borrow.Author.Needs.{needs}
@@ -7,16 +7,16 @@ use Rattle.hands.proofs.chording_click.Statement.{statement}
 use Rattle.hands.proofs.chording_click.Tie as tie
 
 add-n : tie.Need-add-n
-add-n c = omega (arith, c .before .before .before .before .pre .1 .1 .double)
+add-n c = omega (arith, c .before .before .before .before .pre .0 .room .double)
 
 with-double-requires : tie.Need-with-double-requires
 with-double-requires c κs = search needs
 
 perform-chord-requires : tie.Need-perform-chord-requires
-perform-chord-requires c κs = chord-asks _ _ _ _ _ _ (c .before .before .before .before .before .before .before .pre .0) _ (c .before .before .with-double .ensures) (c .before .before .before .before .before .before .before .pre .1 .0)
+perform-chord-requires c κs = chord-asks _ _ _ _ _ _ (c .before .before .before .before .before .before .before .pre .0) _ (c .before .before .with-double .ensures) (c .before .before .before .before .before .before .before .pre .1)
 
 add-dce-requires : tie.Need-add-dce-requires
-add-dce-requires c κs = chord-dce _ _ _ _ _ _ (c .before .before .before .before .before .before .before .before .before .before .before .before .pre .0) _ (c .before .before .before .before .before .before .before .with-double .ensures) _ _ _ (c .before .before .before .before .perform-chord .ensures) (c .before .before .before .before .before .before .before .before .before .before .before .before .pre .1 .1)
+add-dce-requires c κs = chord-dce _ _ _ _ _ _ (c .before .before .before .before .before .before .before .before .before .before .before .before .pre .0) _ (c .before .before .before .before .before .before .before .with-double .ensures) _ _ _ (c .before .before .before .before .perform-chord .ensures)
 
 passes-after-chord-requires : tie.Need-passes-after-chord-requires
 passes-after-chord-requires c κs = chord-then _ _ _ _ _ _ (c .before .before .before .before .before .before .before .before .before .before .before .before .before .before .before .before .pre .0) _ (c .before .before .before .before .before .before .before .before .before .before .before .with-double .ensures) _ _ _ (c .before .before .before .before .before .before .before .before .perform-chord .ensures) _ (c .before .before .before .add-dce .ensures)

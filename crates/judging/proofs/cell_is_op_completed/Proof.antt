@@ -24,8 +24,8 @@ same-length c = search needs
 
 returns : tie.Need-returns
 returns c = record {
-  answer = judged-left _ _ _ _ _ _ _ _ (c .before .before .before .before .before .before .before .before .before .before .pre .0 .room) (c .before .before .before .before .before .before .before .before .before .before .pre .1 .0) (c .before .before .before .before .before .before .walk .ensures);
-  same = cleared _ _ _ _ (c .before .before .before .before .before .before .before .before .before .before .pre .1 .0) (c .before .before .before .before .before .before .walk .ensures .rest) (c .before .before .before .before .before .before .walk .kept .1 .1 .0) (c .before .before .clear .ensures) (c .before .before .clear .kept .0);
+  outcome = judged-left _ _ _ _ _ _ _ _ (c .before .before .before .before .before .before .before .before .before .before .pre .0 .fits .room) (c .before .before .before .before .before .before .before .before .before .before .pre .0 .zeros) (c .before .before .before .before .before .before .walk .ensures);
+  same = cleared _ _ _ _ (c .before .before .before .before .before .before .before .before .before .before .pre .0 .zeros) (c .before .before .before .before .before .before .walk .ensures .rest) (c .before .before .before .before .before .before .walk .kept .1 .1 .0) (c .before .before .clear .ensures) (c .before .before .clear .kept .0);
 }
 
 pub cell-is-op-completed-spec : {M : Type 1} → statement M

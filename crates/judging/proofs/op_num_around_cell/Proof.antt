@@ -1,5 +1,5 @@
 -- `judging::op_num_around_cell`: the tally's count; the work is cleared where a walk was made, and untouched where none was.
-use Rattle.judging.proofs.Tallying.{chord-judged, cleared}
+use Rattle.judging.proofs.Tallying.{tallied-count, cleared}
 use borrow.Author.Needs.{needs}
 use Rattle.judging.proofs.op_num_around_cell.Statement.{statement}
 use Rattle.judging.proofs.op_num_around_cell.Tie as tie
@@ -23,13 +23,21 @@ same-length : tie.Need-same-length
 same-length c = search needs
 
 returns : tie.Need-returns
-returns c = chord-judged _ _ _ _ _ _ _ _ _ _ (c .before .before .before .before .before .before .before .before .before .before .before .before .pre .1 .1 .0) (c .before .before .before .before .before .before .before .judge-cells .ensures) (cleared _ _ _ _ (c .before .before .before .before .before .before .before .before .before .before .before .before .pre .1 .0) (c .before .before .before .before .before .before .before .judge-cells .ensures .rest) (c .before .before .before .before .before .before .before .judge-cells .ensures .long) (c .before .before .clear .ensures) (c .before .before .clear .kept .0))
+returns c =
+    let pre = c .before .before .before .before .before .before .before .before .before .before .before .before .pre in
+    let judged = c .before .before .before .before .before .before .before .judge-cells in
+    record {
+      outcome = tallied-count _ _ _ _ _ _ _ _ (judged .ensures);
+      same = cleared _ _ _ _ (pre .0 .zeros) (judged .ensures .rest) (judged .ensures .long) (c .before .before .clear .ensures) (c .before .before .clear .kept .0);
+    }
 
 same-length-2 : tie.Need-same-length-2
 same-length-2 c = search needs
 
 returns-2 : tie.Need-returns-2
-returns-2 c = chord-judged _ _ _ _ _ _ _ _ _ _ (c .before .before .before .before .before .before .before .before .pre .1 .1 .0) (c .before .before .before .judge-cells .ensures) (c .before .before .before .judge-cells .ensures .still (c .if1 .left))
+returns-2 c =
+    let judged = c .before .before .before .judge-cells in
+    record { outcome = tallied-count _ _ _ _ _ _ _ _ (judged .ensures); same = judged .ensures .still (c .if1 .left) }
 
 pub op-num-around-cell-spec : {M : Type 1} → statement M
 op-num-around-cell-spec =

@@ -34,7 +34,7 @@ same-length c = search needs
 
 returns : tie.Need-returns
 returns c = record {
-  answer = total-is _ _ _ _ _ _ _ (c .before .before .before .before .before .before .before .before .judge-board .ensures) (c .before .lone-board .ensures);
+  outcome = total-is _ _ _ _ _ _ _ (c .before .before .before .before .before .before .before .before .judge-board .ensures) (c .before .lone-board .ensures);
   same = cleared _ _ _ _ (c .before .before .before .before .before .before .before .before .before .before .before .before .pre .1 .1) (c .before .before .before .before .before .before .before .before .judge-board .ensures .rest) (c .before .before .before .before .before .before .before .before .judge-board .ensures .long) (c .before .before .before .before .clear .ensures) (c .before .before .before .before .clear .kept .0);
 }
 

@@ -7,13 +7,13 @@ use Rattle.opening.proofs.refresh_board.Tie as tie
 touch-given-requires : tie.Need-touch-given-requires
 touch-given-requires c κs =
     let pre = c .before .before .before .before .before .pre in
-    (roomy-start _ _ _ _ _ (pre .0), pre .1 .1 .0)
+    (roomy-start _ _ _ _ _ (pre .0), pre .1 .0)
 
 work-off-requires : tie.Need-work-off-requires
 work-off-requires c κs =
     let pre = c .before .before .before .before .before .before .before .before .before .before .before .before .pre in
     let moved = c .before .before .before .before .before .before .touch-given in
-    work-asks _ _ _ _ _ _ _ _ _ _ _ (pre .0) (pre .1 .0) (pre .1 .1 .0) (moved .ensures) (moved .kept .1 .1 .0)
+    work-asks _ _ _ _ _ _ _ _ _ _ _ (pre .0) (pre .1 .0) (moved .ensures) (moved .kept .1 .1 .0)
 
 cross-flags-requires : tie.Need-cross-flags-requires
 cross-flags-requires c κs = search needs
@@ -31,7 +31,7 @@ returns c =
     let worked = c .before .before .before .before .before .before .before .before .before .work-off in
     let if1 = c .before .before .before .before .if1 in
     let flags = c .before .before .cross-flags in
-    refreshed-hit _ _ _ _ _ _ _ _ _ _ _ (pre .0) (pre .1 .0) (pre .1 .1 .0) (moved .ensures) (moved .kept .1 .1 .0) _ _ _ (worked .ensures) (worked .kept .1 .1 .0) _ (if1 .taken) (flags .ensures)
+    refreshed-hit _ _ _ _ _ _ _ _ _ _ _ (pre .0) (pre .1 .0) (moved .ensures) (moved .kept .1 .1 .0) _ _ _ (worked .ensures) (worked .kept .1 .1 .0) _ (if1 .taken) (flags .ensures)
 
 same-length-3 : tie.Need-same-length-3
 same-length-3 c = search needs
@@ -44,7 +44,7 @@ returns-2 c =
     let pre = c .before .before .before .before .before .before .before .before .before .before .before .before .before .before .before .before .before .before .pre in
     let moved = c .before .before .before .before .before .before .before .before .before .before .before .before .touch-given in
     let worked = c .before .before .before .before .before .work-off in
-    refreshed-safe _ _ _ _ _ _ _ _ _ _ _ (pre .0) (pre .1 .0) (pre .1 .1 .0) (moved .ensures) (moved .kept .1 .1 .0) _ _ _ (worked .ensures) (worked .kept .1 .1 .0) (c .if1 .left)
+    refreshed-safe _ _ _ _ _ _ _ _ _ _ _ (pre .0) (pre .1 .0) (moved .ensures) (moved .kept .1 .1 .0) _ _ _ (worked .ensures) (worked .kept .1 .1 .0) (c .if1 .left)
 
 pub refresh-board-spec : {M : Type 1} → statement M
 refresh-board-spec =

@@ -1,7 +1,8 @@
 -- `passes::passes_after_flag` meets its contract: at each return the tests say which pass followed.
 use mathlib.Core.Path.{sym, _∙_}
 use borrow.Author.Tests.{not-true, not-false}
-use Rattle.passes.proofs.After.{flag-over, flag-both, flag-alone, flag-none, leaves-none, leaves-as}
+use Rattle.cells.proofs.Contracts.{leaves-by, leaves-here}
+use Rattle.passes.proofs.After.{flag-over, flag-both, flag-alone, flag-none}
 use Rattle.passes.proofs.passes_after_flag.Statement.{statement}
 use Rattle.passes.proofs.passes_after_flag.Tie as tie
 
@@ -9,7 +10,7 @@ playing-requires : tie.Need-playing-requires
 playing-requires c κs = tt
 
 returns : tie.Need-returns
-returns c = leaves-none _ _ _ (flag-over _ _ (sym (c .before .playing .ensures) ∙ not-true _ (c .if1 .taken)))
+returns c = leaves-here (sym (flag-over _ _ (sym (c .before .playing .ensures) ∙ not-true _ (c .if1 .taken))))
 
 one-of-requires : tie.Need-one-of-requires
 one-of-requires c κs = tt
@@ -27,7 +28,7 @@ same-length-3 : tie.Need-same-length-3
 same-length-3 c = c .before .before .before .before .before .before .both-pass .kept .1 .1 .1 .1 .0
 
 returns-2 : tie.Need-returns-2
-returns-2 c = leaves-as _ _ _ _ _ (c .before .before .before .before .before .before .both-pass .ensures) (flag-both _ _ (sym (c .before .before .before .before .before .before .before .before .before .before .before .before .before .playing .ensures) ∙ not-false _ (c .before .before .before .before .before .before .before .before .before .before .before .before .if1 .left)) (sym (c .before .before .before .before .before .before .before .before .before .before .before .one-of .ensures) ∙ c .before .before .before .before .before .before .before .before .before .before .if2 .taken))
+returns-2 c = leaves-by (c .before .before .before .before .before .before .both-pass .ensures) (flag-both _ _ (sym (c .before .before .before .before .before .before .before .before .before .before .before .before .before .playing .ensures) ∙ not-false _ (c .before .before .before .before .before .before .before .before .before .before .before .before .if1 .left)) (sym (c .before .before .before .before .before .before .before .before .before .before .before .one-of .ensures) ∙ c .before .before .before .before .before .before .before .before .before .before .if2 .taken))
 
 one-of-requires-2 : tie.Need-one-of-requires-2
 one-of-requires-2 c κs = tt
@@ -45,10 +46,10 @@ same-length-6 : tie.Need-same-length-6
 same-length-6 c = c .before .before .before .before .before .before .flag-pass .kept .1 .1 .1 .1 .0
 
 returns-3 : tie.Need-returns-3
-returns-3 c = leaves-as _ _ _ _ _ (c .before .before .before .before .before .before .flag-pass .ensures) (flag-alone _ _ (sym (c .before .before .before .before .before .before .before .before .before .before .before .before .before .before .before .playing .ensures) ∙ not-false _ (c .before .before .before .before .before .before .before .before .before .before .before .before .before .before .if1 .left)) (sym (c .before .before .before .before .before .before .before .before .before .before .before .before .before .one-of .ensures) ∙ c .before .before .before .before .before .before .before .before .before .before .before .before .if2 .left) (sym (c .before .before .before .before .before .before .before .before .before .before .before .one-of2 .ensures) ∙ c .before .before .before .before .before .before .before .before .before .before .if3 .taken))
+returns-3 c = leaves-by (c .before .before .before .before .before .before .flag-pass .ensures) (flag-alone _ _ (sym (c .before .before .before .before .before .before .before .before .before .before .before .before .before .before .before .playing .ensures) ∙ not-false _ (c .before .before .before .before .before .before .before .before .before .before .before .before .before .before .if1 .left)) (sym (c .before .before .before .before .before .before .before .before .before .before .before .before .before .one-of .ensures) ∙ c .before .before .before .before .before .before .before .before .before .before .before .before .if2 .left) (sym (c .before .before .before .before .before .before .before .before .before .before .before .one-of2 .ensures) ∙ c .before .before .before .before .before .before .before .before .before .before .if3 .taken))
 
 returns-4 : tie.Need-returns-4
-returns-4 c = leaves-none _ _ _ (flag-none _ _ (sym (c .before .before .before .before .before .playing .ensures) ∙ not-false _ (c .before .before .before .before .if1 .left)) (sym (c .before .before .before .one-of .ensures) ∙ c .before .before .if2 .left) (sym (c .before .one-of2 .ensures) ∙ c .if3 .left))
+returns-4 c = leaves-here (sym (flag-none _ _ (sym (c .before .before .before .before .before .playing .ensures) ∙ not-false _ (c .before .before .before .before .if1 .left)) (sym (c .before .before .before .one-of .ensures) ∙ c .before .before .if2 .left) (sym (c .before .one-of2 .ensures) ∙ c .if3 .left)))
 
 pub passes-after-flag-spec : {M : Type 1} → statement M
 passes-after-flag-spec =

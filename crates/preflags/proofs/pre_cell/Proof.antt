@@ -1,13 +1,13 @@
 -- `preflags::pre_cell` meets its contract.
 use mathlib.Core.Path.{_∙_, sym, refl}
 use borrow.Author.Needs.{needs}
-use Rattle.buttons.proofs.Plays.{plays-by}
+use Rattle.cells.proofs.Contracts.{leaves-by}
 use Rattle.preflags.proofs.Cases.{pre-cell-more, pre-cell-last, pre-cell-less, pre-cell-question}
 use Rattle.preflags.proofs.pre_cell.Statement.{statement}
 use Rattle.preflags.proofs.pre_cell.Tie as tie
 
 slice-read-v : tie.Need-slice-read-v
-slice-read-v c = rw (c .before .before .before .before .pre .0 .fits .board) (c .before .before .before .before .pre .1 .0)
+slice-read-v c = rw (c .before .before .before .before .pre .0 .laid .fits .board) (c .before .before .before .before .pre .1 .0)
 
 add-n : tie.Need-add-n
 add-n c = search needs
@@ -15,8 +15,8 @@ add-n c = search needs
 with-preflags-requires : tie.Need-with-preflags-requires
 with-preflags-requires c κs = search needs
 
-right-on-requires : tie.Need-right-on-requires
-right-on-requires c κs = rw (c .before .before .before .with-preflags .ensures) (c .before .before .before .before .before .before .before .before .before .before .pre .0, c .before .before .before .before .before .before .before .before .before .before .pre .1 .0)
+right-click-requires : tie.Need-right-click-requires
+right-click-requires c κs = rw (c .before .before .before .with-preflags .ensures) (c .before .before .before .before .before .before .before .before .before .before .pre .0, c .before .before .before .before .before .before .before .before .before .before .pre .1 .0)
 
 same-length : tie.Need-same-length
 same-length c = search needs
@@ -28,13 +28,13 @@ same-length-3 : tie.Need-same-length-3
 same-length-3 c = search needs
 
 returns : tie.Need-returns
-returns c = plays-by (c .before .before .before .before .before .before .right-on .ensures) (pre-cell-more _ (c .before .before .before .before .before .before .before .before .before .before .before .before .before .before .before .before .before .args .i) (c .before .before .before .before .before .before .before .before .before .before .before .before .before .before .before .before .before .args .p) _ _ _ (c .before .before .before .before .before .before .before .before .before .before .before .before .if1 .taken) (c .before .before .before .before .before .before .before .before .before .before .with-preflags .ensures))
+returns c = leaves-by (c .before .before .before .before .before .before .right-click .ensures) (pre-cell-more _ (c .before .before .before .before .before .before .before .before .before .before .before .before .before .before .before .before .before .args .i) (c .before .before .before .before .before .before .before .before .before .before .before .before .before .before .before .before .before .args .p) _ _ _ (c .before .before .before .before .before .before .before .before .before .before .before .before .if1 .taken) (c .before .before .before .before .before .before .before .before .before .before .with-preflags .ensures))
 
 is-last-requires : tie.Need-is-last-requires
 is-last-requires c κs = search needs
 
 take-last-back-requires : tie.Need-take-last-back-requires
-take-last-back-requires c κs = rw (c .before .before .before .before .before .before .before .before .before .before .pre .0 .fits .board) (c .before .before .before .before .before .before .before .before .before .before .pre .1 .0)
+take-last-back-requires c κs = rw (c .before .before .before .before .before .before .before .before .before .before .pre .0 .laid .fits .board) (c .before .before .before .before .before .before .before .before .before .before .pre .1 .0)
 
 same-length-4 : tie.Need-same-length-4
 same-length-4 c = search needs
@@ -51,8 +51,8 @@ sub-n c = c .before .before .before .before .before .before .before .before .bef
 with-preflags-requires-2 : tie.Need-with-preflags-requires-2
 with-preflags-requires-2 c κs = search needs
 
-right-on-requires-2 : tie.Need-right-on-requires-2
-right-on-requires-2 c κs = rw (c .before .before .before .with-preflags2 .ensures) (c .before .before .before .before .before .before .before .before .before .before .before .before .before .pre .0, c .before .before .before .before .before .before .before .before .before .before .before .before .before .pre .1 .0)
+right-click-requires-2 : tie.Need-right-click-requires-2
+right-click-requires-2 c κs = rw (c .before .before .before .with-preflags2 .ensures) (c .before .before .before .before .before .before .before .before .before .before .before .before .before .pre .0, c .before .before .before .before .before .before .before .before .before .before .before .before .before .pre .1 .0)
 
 same-length-6 : tie.Need-same-length-6
 same-length-6 c = search needs
@@ -64,7 +64,7 @@ same-length-8 : tie.Need-same-length-8
 same-length-8 c = search needs
 
 returns-3 : tie.Need-returns-3
-returns-3 c = plays-by (c .before .before .before .before .before .before .right-on2 .ensures) (pre-cell-less _ (c .before .before .before .before .before .before .before .before .before .before .before .before .before .before .before .before .before .before .before .before .args .i) (c .before .before .before .before .before .before .before .before .before .before .before .before .before .before .before .before .before .before .before .before .args .p) _ _ _ (c .before .before .before .before .before .before .before .before .before .before .before .before .before .before .before .if1 .left) (c .before .before .before .before .before .before .before .before .before .before .before .before .before .before .if2 .taken) (sym (c .before .before .before .before .before .before .before .before .before .before .before .before .before .is-last .ensures) ∙ c .before .before .before .before .before .before .before .before .before .before .before .before .if3 .left) (c .before .before .before .before .before .before .before .before .before .before .with-preflags2 .ensures))
+returns-3 c = leaves-by (c .before .before .before .before .before .before .right-click2 .ensures) (pre-cell-less _ (c .before .before .before .before .before .before .before .before .before .before .before .before .before .before .before .before .before .before .before .before .args .i) (c .before .before .before .before .before .before .before .before .before .before .before .before .before .before .before .before .before .before .before .before .args .p) _ _ _ (c .before .before .before .before .before .before .before .before .before .before .before .before .before .before .before .if1 .left) (c .before .before .before .before .before .before .before .before .before .before .before .before .before .before .if2 .taken) (sym (c .before .before .before .before .before .before .before .before .before .before .before .before .before .is-last .ensures) ∙ c .before .before .before .before .before .before .before .before .before .before .before .before .if3 .left) (c .before .before .before .before .before .before .before .before .before .before .with-preflags2 .ensures))
 
 pre-question-requires : tie.Need-pre-question-requires
 pre-question-requires c κs = (c .before .before .before .before .before .before .before .before .before .pre .0, c .before .before .before .before .before .before .before .before .before .pre .1 .0)
@@ -79,7 +79,7 @@ same-length-11 : tie.Need-same-length-11
 same-length-11 c = search needs
 
 returns-4 : tie.Need-returns-4
-returns-4 c = plays-by (c .before .before .before .before .before .before .pre-question .ensures) (pre-cell-question _ (c .before .before .before .before .before .before .before .before .before .before .before .before .before .before .before .before .args .i) (c .before .before .before .before .before .before .before .before .before .before .before .before .before .before .before .before .args .p) (c .before .before .before .before .before .before .before .before .before .before .before .before .before .before .before .before .args .p) _ _ (c .before .before .before .before .before .before .before .before .before .before .before .if1 .left) (c .before .before .before .before .before .before .before .before .before .before .if2 .left))
+returns-4 c = leaves-by (c .before .before .before .before .before .before .pre-question .ensures) (pre-cell-question _ (c .before .before .before .before .before .before .before .before .before .before .before .before .before .before .before .before .args .i) (c .before .before .before .before .before .before .before .before .before .before .before .before .before .before .before .before .args .p) (c .before .before .before .before .before .before .before .before .before .before .before .before .before .before .before .before .args .p) _ _ (c .before .before .before .before .before .before .before .before .before .before .before .if1 .left) (c .before .before .before .before .before .before .before .before .before .before .if2 .left))
 
 pub pre-cell-spec : {M : Type 1} → statement M
 pre-cell-spec =
@@ -88,7 +88,7 @@ pre-cell-spec =
     slice-read-v
     add-n
     with-preflags-requires
-    right-on-requires
+    right-click-requires
     same-length
     same-length-2
     same-length-3
@@ -100,7 +100,7 @@ pre-cell-spec =
     returns-2
     sub-n
     with-preflags-requires-2
-    right-on-requires-2
+    right-click-requires-2
     same-length-6
     same-length-7
     same-length-8
