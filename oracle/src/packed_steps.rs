@@ -6,12 +6,16 @@ use crate::steps::Step;
 /// A position's first numbers have one byte each, the others four.
 const SHORT_NUMBERS: usize = 7;
 
+/// Between the event and the lengths, for numbers to come: written 0 and not read.
+const RESERVED: usize = 18;
+
 pub fn pack(out: &mut Vec<u8>, step: &Step) {
     let Lent { mines, shown, bits } = &step.lent;
     for (place, number) in step.position.numbers().into_iter().enumerate() {
         put(out, number, if place < SHORT_NUMBERS { 1 } else { 4 });
     }
     out.extend(step.event);
+    out.extend([0; RESERVED]);
     for length in [mines.len(), shown.len(), bits.len(), step.work] {
         put(out, length, 2);
     }
@@ -45,6 +49,7 @@ fn first(rest: &mut &[u8]) -> Option<Step> {
     }
     let position = Position::from_numbers(numbers)?;
     let event = bytes(rest, 3)?.try_into().ok()?;
+    bytes(rest, RESERVED)?;
     let [mines, shown, bits, work] = [take(rest, 2)?, take(rest, 2)?, take(rest, 2)?, take(rest, 2)?];
     let mines = bytes(rest, mines)?.iter().map(|&byte| byte as i8).collect();
     let lent = Lent { mines, shown: bytes(rest, shown)?.to_vec(), bits: bytes(rest, bits)?.to_vec() };

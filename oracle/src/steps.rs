@@ -4,6 +4,7 @@
 //              preflag events left right double lce rce dce flag
 //              solved_left solved_chord                                       11 numbers of four bytes
 //   event      code row column                                                3 numbers of one byte
+//   reserved   0, not read                                                    18 bytes
 //   lengths    of the mine board, the shown board, the bits and the work      4 numbers of two bytes
 //   mines      the mine board, 255 for a mine                                 its length in bytes
 //   shown      the shown board                                                its length in bytes

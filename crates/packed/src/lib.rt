@@ -15,31 +15,34 @@ use rules::Settings;
 
 // ---- a packed step's head --------------------------------------------------------------------------------------------------------------
 
+// The bytes of a head; those that nothing names are reserved.
+pub type Head = [u8; 80];
+
 // A number of two bytes from a place on.
-fn two_at(s: &[u8; 62], at: usize) -> u32
-    requires { ⌜ at < 61 ⌝ }
+fn two_at(s: &Head, at: usize) -> u32
+    requires { ⌜ at < 79 ⌝ }
     ensures { λ r. ⌜ (r ≡ twoAt (now (s .entry)) at) × (r < 65536) ⌝ }
 {
     writing::wide(s[at]) + 256 * writing::wide(s[at + 1])
 }
 
 // A number of four bytes from a place on.
-fn four_at(s: &[u8; 62], at: usize) -> u32
-    requires { ⌜ at < 59 ⌝ }
+fn four_at(s: &Head, at: usize) -> u32
+    requires { ⌜ at < 77 ⌝ }
     ensures { λ r. ⌜ r ≡ fourAt (now (s .entry)) at ⌝ }
 {
     two_at(s, at) + 65536 * two_at(s, at + 2)
 }
 
 // A length, as long as its bytes allow.
-pub fn length_at(s: &[u8; 62], at: usize) -> usize
-    requires { ⌜ at < 61 ⌝ }
+pub fn length_at(s: &Head, at: usize) -> usize
+    requires { ⌜ at < 79 ⌝ }
     ensures { λ r. ⌜ r < 65536 ⌝ }
 {
     two_at(s, at) as usize
 }
 
-fn settings_in(s: &[u8; 62]) -> Settings
+fn settings_in(s: &Head) -> Settings
     ensures { λ r. ⌜ r ≡ settingsIn (now (s .entry)) ⌝ }
 {
     Settings {
@@ -50,7 +53,7 @@ fn settings_in(s: &[u8; 62]) -> Settings
     }
 }
 
-fn counts_in(s: &[u8; 62]) -> Counts
+fn counts_in(s: &Head) -> Counts
     ensures { λ r. ⌜ r ≡ countsIn (now (s .entry)) ⌝ }
 {
     Counts {
@@ -63,7 +66,7 @@ fn counts_in(s: &[u8; 62]) -> Counts
     }
 }
 
-fn secrets_in(s: &[u8; 62]) -> Secrets
+fn secrets_in(s: &Head) -> Secrets
     ensures { λ r. ⌜ r ≡ secretsIn (now (s .entry)) ⌝ }
 {
     Secrets {
@@ -73,7 +76,7 @@ fn secrets_in(s: &[u8; 62]) -> Secrets
     }
 }
 
-pub fn position_in(s: &[u8; 62]) -> Position
+pub fn position_in(s: &Head) -> Position
     ensures { λ r. ⌜ r ≡ positionIn (now (s .entry)) ⌝ }
 {
     let settings = settings_in(s);

@@ -4,6 +4,7 @@
 ghost use mathlib.Core.Path.{_≡_};
 ghost use lib.ListN.{length};
 ghost use Rattle.steps.specs.Rooms.{Rooms};
+use packed::Head;
 
 // The next step; false where there is none.
 fn play_next(
@@ -16,14 +17,14 @@ fn play_next(
 ) -> bool
     requires { ⌜ Rooms (now bytes) (now mines) (now shown) (now bits) (now work) (now out) ⌝ }
 {
-    let mut head = [0u8; 62];
+    let mut head: Head = [0; 80];
     if !telling::read_part(&mut head) {
         return false;
     }
-    let cells = packed::length_at(&head, 54);
-    let looks = packed::length_at(&head, 56);
-    let flags = packed::length_at(&head, 58);
-    let room = packed::length_at(&head, 60);
+    let cells = packed::length_at(&head, 72);
+    let looks = packed::length_at(&head, 74);
+    let flags = packed::length_at(&head, 76);
+    let room = packed::length_at(&head, 78);
     telling::play_rest(
         &head,
         &mut bytes[..cells],

@@ -8,11 +8,12 @@ ghost use Rattle.packed.specs.Line.{outcomeRoom};
 ghost use Rattle.telling.specs.Told.{stepLine};
 use libc::STDIN_FILENO;
 use libc::STDOUT_FILENO;
+use packed::Head;
 
 // The step of a head and of what is lent, its line from the front of `out`; the answer is how many bytes the line has.
 // `mines` is room for the mine board, whose bytes are `bytes`.
 fn tell_step(
-    head: &[u8; 62],
+    head: &Head,
     bytes: &[u8],
     mines: &mut [i8],
     shown: &mut [u8],
@@ -57,7 +58,7 @@ fn read_lent(bytes: &mut [u8], shown: &mut [u8], bits: &mut [u8]) -> bool {
 
 // The rest of a step, played; false where it is cut off.
 pub fn play_rest(
-    head: &[u8; 62],
+    head: &Head,
     bytes: &mut [u8],
     mines: &mut [i8],
     shown: &mut [u8],
