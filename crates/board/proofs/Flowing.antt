@@ -12,11 +12,11 @@ use Rattle.rules.specs.declared.Position.{Position}
 use Rattle.rules.specs.declared.Answer.{Answer}
 use Rattle.rules.specs.declared.Decoded.{Decoded}
 use Rattle.rules.specs.declared.Decoded.the-variants.{At, Bad}
-use Rattle.rules.specs.Words.{pick, unless}
+use Rattle.rules.specs.Words.{pick}
 use Rattle.rules.specs.Lent.{workRoom, workAfter}
 use Rattle.rules.specs.Clicks.{Desk, Play, desk, done}
 use Rattle.rules.specs.Step.{pointerOf, refusalAt, stepAt, stepBy, stepOn}
-use Rattle.rules.specs.Lawful.{lawful}
+use Rattle.rules.specs.Lawful.{lawfulRefusal}
 use Rattle.rules.specs.Calls.{answers, outcome, cellsIn, boardsFit, workFits, positionRefusal, plays, lastPlay, anyAccepted, flowRefusal, flowOf}
 use Rattle.keep.specs.Kept.{LawfulAt}
 use Rattle.cells.proofs.Words.{and-left, and-right}
@@ -34,7 +34,7 @@ flow-kept B events d work n e z = flow-lawful B events d work (sym e ∙ z)
 flow-fit : (B : List ℤ) (events : List ℕ) (d : Desk) (work : List ℕ) → flowRefusal B events d work ≡ 0
     → (boardsFit (d .position .settings) B (d .shown) (d .bits) && (workFits (d .position .settings) work && eqb (length events % 3) 0)) ≡ true
 unfolding flowRefusal positionRefusal
-flow-fit B events d work e = settings-accepted (d .position .settings) (boardsFit (d .position .settings) B (d .shown) (d .bits) && (workFits (d .position .settings) work && eqb (length events % 3) 0)) B (unless 26 (lawful B d) 0) e .0 .fits
+flow-fit B events d work e = settings-accepted (d .position .settings) (boardsFit (d .position .settings) B (d .shown) (d .bits) && (workFits (d .position .settings) work && eqb (length events % 3) 0)) B (lawfulRefusal B d) e .0 .fits
 
 pub flow-room : (B : List ℤ) (events : List ℕ) (d : Desk) (work : List ℕ) (n : ℕ) → n ≡ flowRefusal B events d work → n ≡ 0 → workRoom (cellsIn (d .position .settings)) ≤ length work
 unfolding workFits

@@ -1,13 +1,18 @@
-// The board check, refusals 20 to 24.
-// The contracts cite Board of rules; specs/ has what is said of one row.
+// The board check, refusals 20 to 24; and the fresh desk.
+// The contracts cite Board and Calls of rules; specs/ has what is said of one row.
 ghost use mathlib.Core.Path.{_≡_};
 ghost use mathlib.Core.Bool.{true};
 ghost use Prim.Native.Nat.{_*_, _<_, _≤_};
 ghost use lib.ListN.{length};
 ghost use Rattle.rules.specs.Grid.{cellOf};
 ghost use Rattle.rules.specs.Board.{valueOk, valuesOk, numberOk, numbersOk, someSafe, boardRefusal, boardCheck};
+ghost use Rattle.rules.specs.Lent.{bitBytes};
+ghost use Rattle.rules.specs.Clicks.{desk};
+ghost use Rattle.rules.specs.Calls.{cellsIn, freshDesk};
 ghost use Rattle.cells.specs.Ground.{Valued, Mined};
 ghost use Rattle.boards.specs.Rows.{rowOk};
+use rules::Position;
+use rules::Settings;
 
 // How many cells a board has.
 pub fn cell_count(rows: u8, columns: u8) -> usize
@@ -130,4 +135,15 @@ pub fn board_check(rows: u8, columns: u8, mines: &[i8]) -> u16
 {
     let fit = mines.len() == cell_count(rows, columns);
     board_refusal(rows, columns, fit, mines)
+}
+
+// The fresh desk: every cell closed, every bit 0, and the position of a game that nobody has touched.
+pub fn fresh_desk(s: Settings, shown: &mut [u8], bits: &mut [u8]) -> Position
+    requires { ⌜ length (now shown) ≡ cellsIn s ⌝ }
+    requires { ⌜ length (now bits) ≡ bitBytes (cellsIn s) ⌝ }
+    ensures { λ r. ⌜ desk r (now (shown .exit)) (now (bits .exit)) ≡ freshDesk s ⌝ }
+{
+    cells::fill(&mut *shown, 10);
+    cells::fill(&mut *bits, 0);
+    rules::fresh(s)
 }

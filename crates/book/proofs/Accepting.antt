@@ -1,24 +1,26 @@
 -- What is accepted: exactly the byte strings that are laid out as a book; every other one is refused, with nothing read.
-use mathlib.Core.Path.{_≡_, _∙_, sym, ap, refl, subst}
-use mathlib.Core.Bool.{Bool, true, false}
+use mathlib.Core.Path.{_≡_, _∙_, sym, ap, refl, subst, subst⁻¹}
+use mathlib.Core.Bool.{Bool, true, false, false≢true}
 use mathlib.Core.List.{List}
 use Prim.Native.Nat.{ℕ, zero, suc, _+_, _*_, _<_, _≤_}
 use native.Mathlib.Omega.{arith}
-use borrow.Author.Tests.{ltb-true, leb-true, eqb-true, lt-ltb, le-leb}
+use borrow.Author.Tests.{ltb-true, leb-true, eqb-true, le-leb, eq-eqb}
 use lib.Dec.{ltb, leb, eqb}
 use lib.ListN.{length, take, drop, length-drop}
 use lib.Seq.{length-take-le}
 use Rattle.rules.specs.declared.Settings.{Settings}
 use Rattle.rules.specs.declared.Book.{Book}
-use Rattle.rules.specs.Words.{every}
+use Rattle.rules.specs.Words.{pick, every}
 use Rattle.rules.specs.Grid.{sizeOk}
 use Rattle.rules.specs.Board.{mineOk}
 use Rattle.rules.specs.Calls.{modeOk}
-use Rattle.rules.specs.Book.{refusedBook, orElse, reaches, byteAt, wordAt, settingsAt, maxEvents, minesFrom, minesSection, eventsFrom, bookOf, minesOf, eventsOf}
-use Rattle.book.specs.Laid.{Laid, laidBook, eventCountAt}
+use Rattle.rules.specs.Book.{refusedBook, orElse, reaches, byteAt, wordAt, settingsAt, maxEvents, minesFrom, minesSection, eventsFrom, settingsSection, sectionsOf, eventsEnd, bookEnds, bookOf, minesOf, eventsOf}
+use Rattle.book.specs.Laid.{SettingsLaid, LaidFrom, Laid, readFrom, laidBook, eventCountAt, endAt}
 use Rattle.book.specs.Parts.{partOf}
-use Rattle.cells.proofs.Words.{every-at, every-turn}
-use Rattle.book.proofs.Reading.{part-there, mines-none, mines-right, settings-right}
+use Rattle.book.specs.Written.{longestFrom, longest}
+use Rattle.cells.proofs.Words.{pick-both, every-at, every-turn}
+use Rattle.cells.proofs.Grid.{size-limits}
+use Rattle.book.proofs.Reading.{part-there, mines-none, mines-right, mines-counted, settings-right, end-right}
 
 -- ---- a test that an accepted book passed -----------------------------------------------------------------------------------------------
 
@@ -56,82 +58,142 @@ module _ (s : List ℕ) (R C at : ℕ) (rest : Book) where
 -- ---- events ----------------------------------------------------------------------------------------------------------------------------
 
 module _ (s : List ℕ) (at : ℕ) (g : Settings) (minesAt n : ℕ) where
-  events-passed : eventsFrom s at g minesAt n .number ≡ 0 → (wordAt s at ≤ maxEvents) × (length s ≡ at + 2 + 3 * wordAt s at)
+  events-passed : eventsFrom s at g minesAt n .number ≡ 0 → (wordAt s at ≤ maxEvents) × (at + 2 + 3 * wordAt s at ≤ length s)
   unfolding eventsFrom
   events-passed e =
       let end : ℕ = at + 2 + 3 * wordAt s at in
       let read : Book = record { number = 0; place = 0; settings = g; «mines_at» = minesAt; mines = n; «events_at» = at + 2; events = wordAt s at } in
-      let ended : Book = orElse 43 end (leb (length s) end) read in
-      let records : Book = orElse 40 (length s) (leb end (length s)) ended in
+      let records : Book = orElse 40 (length s) (leb end (length s)) read in
       let count : Book = orElse 44 at (leb (wordAt s at) maxEvents) records in
       let counted = passed 40 (length s) (leb (at + 2) (length s)) count (omega arith) e in
       let few = passed 44 at (leb (wordAt s at) maxEvents) records (omega arith) (counted .1) in
-      let there = passed 40 (length s) (leb end (length s)) ended (omega arith) (few .1) in
-      let over = passed 43 end (leb (length s) end) read (omega arith) (there .1) in
-      let low : end ≤ length s = leb-true end (length s) (there .0) in
-      let high : length s ≤ end = leb-true (length s) end (over .0) in
-      (leb-true (wordAt s at) maxEvents (few .0), omega arith)
+      let there = passed 40 (length s) (leb end (length s)) read (omega arith) (few .1) in
+      (leb-true (wordAt s at) maxEvents (few .0), leb-true end (length s) (there .0))
 
-  events-pass : wordAt s at ≤ maxEvents → length s ≡ at + 2 + 3 * wordAt s at
+  pub events-pass : wordAt s at ≤ maxEvents → at + 2 + 3 * wordAt s at ≤ length s
       → eventsFrom s at g minesAt n
       ≡ record { number = 0; place = 0; settings = g; «mines_at» = minesAt; mines = n; «events_at» = at + 2; events = wordAt s at }
   unfolding eventsFrom
-  events-pass few ends =
+  events-pass few there =
       let counted : at + 2 ≤ length s = omega arith in
-      let there : at + 2 + 3 * wordAt s at ≤ length s = omega arith in
-      let over : length s ≤ at + 2 + 3 * wordAt s at = omega arith in
-      simp (le-leb _ _ counted, le-leb _ _ few, le-leb _ _ there, le-leb _ _ over)
+      simp (le-leb _ _ counted, le-leb _ _ few, le-leb _ _ there)
+
+-- ---- what follows the settings, where the mine count stands at a place ------------------------------------------------------------------
+
+module _ (s : List ℕ) (at : ℕ) (g : Settings) where
+  section-passed : minesSection s at g .number ≡ 0 → LaidFrom s at g
+  unfolding minesSection every
+  section-passed e =
+      let rest : Book = eventsFrom s (eventCountAt s at) g (at + 2) (wordAt s at) in
+      let list : Book = minesFrom s (g .rows) (g .columns) (at + 2) 0 (wordAt s at) rest in
+      let count : Book = orElse 24 at (ltb (wordAt s at) (g .rows * g .columns)) list in
+      let counted = passed 40 (length s) (leb (at + 2) (length s)) count (omega arith) e in
+      let fewer = passed 24 at (ltb (wordAt s at) (g .rows * g .columns)) list (omega arith) (counted .1) in
+      let mines = mines-passed s (g .rows) (g .columns) (at + 2) rest (wordAt s at) 0 refl (fewer .1) in
+      let events = events-passed s (eventCountAt s at) g (at + 2) (wordAt s at) (mines .1) in
+      let all : 0 + wordAt s at ≡ wordAt s at = omega arith in
+      record {
+        fewer = ltb-true _ _ (fewer .0);
+        rising = subst (λ (k : ℕ). every (mineOk (g .rows) (g .columns) (drop (at + 2) s)) k ≡ true) all (mines .0);
+        few = events .0;
+        there = events .1;
+      }
+
+  section-short : g .rows * g .columns ≤ 2048 → LaidFrom s at g → endAt s at ≤ longestFrom at
+  section-short small l = omega (arith, l .fewer, l .few)
+
+  section-read : LaidFrom s at g → minesSection s at g ≡ readFrom s at g
+  section-read l =
+      let there : endAt s at ≤ length s = l .there in
+      let all : wordAt s at ≡ 0 + wordAt s at = omega arith in
+      mines-counted s at g 0 0 (omega arith) (l .fewer)
+      ∙ mines-pass s (g .rows) (g .columns) (at + 2) (eventsFrom s (eventCountAt s at) g (at + 2) (wordAt s at)) (wordAt s at) 0
+      (subst (λ (k : ℕ). every (mineOk (g .rows) (g .columns) (drop (at + 2) s)) k ≡ true) all (l .rising)) (omega arith)
+      ∙ events-pass s (eventCountAt s at) g (at + 2) (wordAt s at) (l .few) there
+
+-- ---- the settings ----------------------------------------------------------------------------------------------------------------------
+
+module _ (s : List ℕ) (rest : Book) where
+  settings-passed : settingsSection s rest .number ≡ 0 → SettingsLaid s × (rest .number ≡ 0)
+  unfolding settingsSection
+  settings-passed e =
+      let from-mode : Book = orElse 25 3 (modeOk (byteAt s 3)) rest in
+      let from-size : Book = orElse 20 1 (sizeOk (byteAt s 1) (byteAt s 2)) from-mode in
+      let from-question : Book = orElse 41 4 (leb (byteAt s 4) 1) from-size in
+      let from-five : Book = orElse 40 (length s) (leb 5 (length s)) from-question in
+      let from-four : Book = orElse 41 0 (eqb (byteAt s 0) 4) from-five in
+      let some = passed 40 (length s) (leb 1 (length s)) from-four (omega arith) e in
+      let four = passed 41 0 (eqb (byteAt s 0) 4) from-five (omega arith) (some .1) in
+      let five = passed 40 (length s) (leb 5 (length s)) from-question (omega arith) (four .1) in
+      let question = passed 41 4 (leb (byteAt s 4) 1) from-size (omega arith) (five .1) in
+      let size = passed 20 1 (sizeOk (byteAt s 1) (byteAt s 2)) from-mode (omega arith) (question .1) in
+      let mode = passed 25 3 (modeOk (byteAt s 3)) rest (omega arith) (size .1) in (
+        record {
+          four = eqb-true _ _ (four .0);
+          five = leb-true _ _ (five .0);
+          question = leb-true _ _ (question .0);
+          size = size .0;
+          mode = mode .0;
+        },
+        mode .1,
+      )
+
+  settings-read : SettingsLaid s → settingsSection s rest ≡ rest
+  settings-read l = settings-right s rest (l .four) (l .five) (le-leb _ _ (l .question)) (l .size) (l .mode)
 
 -- ---- the whole book --------------------------------------------------------------------------------------------------------------------
 
+-- the sections are right exactly if they are laid out, and so read
+sections-laid : (s : List ℕ) → sectionsOf s .number ≡ 0 → SettingsLaid s × LaidFrom s 5 (settingsAt s)
+unfolding sectionsOf
+sections-laid s e = let p = settings-passed s (minesSection s 5 (settingsAt s)) e in (p .0, section-passed s 5 (settingsAt s) (p .1))
+
+sections-read : (s : List ℕ) → SettingsLaid s → LaidFrom s 5 (settingsAt s) → sectionsOf s ≡ laidBook s
+unfolding sectionsOf
+sections-read s g l = settings-read s (minesSection s 5 (settingsAt s)) g ∙ section-read s 5 (settingsAt s) l
+
+-- they end no later than those of the longest book
+laid-short : (s : List ℕ) → SettingsLaid s → LaidFrom s 5 (settingsAt s) → endAt s 5 ≤ longest
+laid-short s g l = section-short s 5 (settingsAt s) (size-limits (byteAt s 1) (byteAt s 2) (g .size) .cells) l
+
+pub sections-short : (s : List ℕ) → sectionsOf s .number ≡ 0 → eventsEnd (sectionsOf s) ≤ longest
+sections-short s z =
+    let l = sections-laid s z in
+    let ends : eventsEnd (sectionsOf s) ≡ endAt s 5 = ap eventsEnd (sections-read s (l .0) (l .1)) in
+    omega (arith, laid-short s (l .0) (l .1))
+
+end-passed : (s : List ℕ) (end : ℕ) (b : Book) → bookEnds s end b .number ≡ 0 → (b .number ≡ 0) × (length s ≤ end)
+unfolding bookEnds
+end-passed s end b e = go (eqb (b .number) 0) refl e
+  where
+    go : (t : Bool) → eqb (b .number) 0 ≡ t → pick t (orElse 43 end (leb (length s) end) b) b .number ≡ 0 → (b .number ≡ 0) × (length s ≤ end)
+    go true d u = (eqb-true _ _ d, leb-true _ _ (passed 43 end (leb (length s) end) b (omega arith) u .0))
+    go false d u = absurd (false≢true (sym d ∙ eq-eqb _ _ u))
+
 -- what is accepted is laid out as a book
 pub accepted-laid : (s : List ℕ) → bookOf s .number ≡ 0 → Laid s
-unfolding bookOf minesSection every
+unfolding bookOf
 accepted-laid s e =
-    let rest : Book = eventsFrom s (eventCountAt s) (settingsAt s) 7 (wordAt s 5) in
-    let list : Book = minesFrom s (byteAt s 1) (byteAt s 2) 7 0 (wordAt s 5) rest in
-    let count : Book = orElse 24 5 (ltb (wordAt s 5) (byteAt s 1 * byteAt s 2)) list in
-    let section : Book = orElse 40 (length s) (leb 7 (length s)) count in
-    let from-mode : Book = orElse 25 3 (modeOk (byteAt s 3)) section in
-    let from-size : Book = orElse 20 1 (sizeOk (byteAt s 1) (byteAt s 2)) from-mode in
-    let from-question : Book = orElse 41 4 (leb (byteAt s 4) 1) from-size in
-    let from-five : Book = orElse 40 (length s) (leb 5 (length s)) from-question in
-    let from-four : Book = orElse 41 0 (eqb (byteAt s 0) 4) from-five in
-    let some = passed 40 (length s) (leb 1 (length s)) from-four (omega arith) e in
-    let four = passed 41 0 (eqb (byteAt s 0) 4) from-five (omega arith) (some .1) in
-    let five = passed 40 (length s) (leb 5 (length s)) from-question (omega arith) (four .1) in
-    let question = passed 41 4 (leb (byteAt s 4) 1) from-size (omega arith) (five .1) in
-    let size = passed 20 1 (sizeOk (byteAt s 1) (byteAt s 2)) from-mode (omega arith) (question .1) in
-    let mode = passed 25 3 (modeOk (byteAt s 3)) section (omega arith) (size .1) in
-    let counted = passed 40 (length s) (leb 7 (length s)) count (omega arith) (mode .1) in
-    let fewer = passed 24 5 (ltb (wordAt s 5) (byteAt s 1 * byteAt s 2)) list (omega arith) (counted .1) in
-    let mines =
-    mines-passed s (byteAt s 1) (byteAt s 2) 7 rest (wordAt s 5) 0 refl (fewer .1) in
-    let events = events-passed s (eventCountAt s) (settingsAt s) 7 (wordAt s 5) (mines .1) in
-    let all : 0 + wordAt s 5 ≡ wordAt s 5 = omega arith in
-    record {
-      four = eqb-true _ _ (four .0);
-      question = leb-true _ _ (question .0);
-      size = size .0;
-      mode = mode .0;
-      fewer = ltb-true _ _ (fewer .0);
-      rising = subst (λ (k : ℕ). every (mineOk (byteAt s 1) (byteAt s 2) (drop 7 s)) k ≡ true) all (mines .0);
-      few = events .0;
-      ends = events .1;
-    }
+    let p = end-passed s (eventsEnd (sectionsOf s)) (sectionsOf s) e in
+    let l = sections-laid s (p .0) in
+    let there : endAt s 5 ≤ length s = l .1 .there in
+    let ends : eventsEnd (sectionsOf s) ≡ endAt s 5 = ap eventsEnd (sections-read s (l .0) (l .1)) in
+    let over = p .1 in
+    record { settings = l .0; sections = l .1; ends = omega arith }
+
+-- and no longer than the longest
+pub accepted-longest : (s : List ℕ) → bookOf s .number ≡ 0 → length s ≤ longest
+accepted-longest s e =
+    let l = accepted-laid s e in
+    omega (arith, l .ends, laid-short s (l .settings) (l .sections))
 
 -- and what is laid out is accepted, and so read
 pub laid-read : (s : List ℕ) → Laid s → bookOf s ≡ laidBook s
-unfolding minesSection
+unfolding bookOf
 laid-read s l =
-    let five : 5 ≤ length s = omega (arith, l .ends) in
-    let counted : 7 ≤ length s = omega (arith, l .ends) in
-    let all : wordAt s 5 ≡ 0 + wordAt s 5 = omega arith in
-    settings-right s (l .four) five (le-leb _ _ (l .question)) (l .size) (l .mode)
-    ∙ (simp (le-leb _ _ counted, lt-ltb _ _ (l .fewer)))
-    ∙ mines-pass s (byteAt s 1) (byteAt s 2) 7 (eventsFrom s (eventCountAt s) (settingsAt s) 7 (wordAt s 5)) (wordAt s 5) 0
-    (subst (λ (k : ℕ). every (mineOk (byteAt s 1) (byteAt s 2) (drop 7 s)) k ≡ true) all (l .rising)) (omega (arith, l .ends))
-    ∙ events-pass s (eventCountAt s) (settingsAt s) 7 (wordAt s 5) (l .few) (l .ends)
+    let read : sectionsOf s ≡ laidBook s = sections-read s (l .settings) (l .sections) in
+    let ends : eventsEnd (sectionsOf s) ≡ endAt s 5 = ap eventsEnd read in
+    end-right s (eventsEnd (sectionsOf s)) (sectionsOf s) (ap (λ (b : Book). b .number) read) (omega (arith, l .ends)) ∙ read
 
 -- ---- every byte string is read or refused ----------------------------------------------------------------------------------------------
 
@@ -149,11 +211,10 @@ reaches-answered s end a = or-else-answered 40 (length s) (leb end (length s)) (
 events-answered : (s : List ℕ) (at : ℕ) (g : Settings) (minesAt n : ℕ) → Answered (eventsFrom s at g minesAt n)
 unfolding eventsFrom
 events-answered s at g minesAt n =
-    let end : ℕ = at + 2 + 3 * wordAt s at in
     let b : Book = record { number = 0; place = 0; settings = g; «mines_at» = minesAt; mines = n; «events_at» = at + 2; events = wordAt s at } in
     reaches-answered s (at + 2)
     (or-else-answered 44 at (leb (wordAt s at) maxEvents) (omega arith)
-    (reaches-answered s end (or-else-answered 43 end (leb (length s) end) (omega arith) (read {b = b} refl))))
+    (reaches-answered s (at + 2 + 3 * wordAt s at) (read {b = b} refl)))
 
 mines-answered : (s : List ℕ) (R C at n left : ℕ) (rest : Book) → Answered rest → Answered (minesFrom s R C at n left rest)
 unfolding minesFrom
@@ -162,20 +223,42 @@ mines-answered s R C at n (suc left) rest a =
     reaches-answered s (at + 2 * n + 2)
     (or-else-answered 42 (at + 2 * n) (mineOk R C (drop at s) n) (omega arith) (mines-answered s R C at (suc n) left rest a))
 
--- the numbers that refuse a book are 20 and above, and a refused book tells nothing but its number and its place
-pub book-answered : (s : List ℕ) → Answered (bookOf s)
-unfolding bookOf minesSection
-book-answered s =
+section-answered : (s : List ℕ) (at : ℕ) (g : Settings) → Answered (minesSection s at g)
+unfolding minesSection
+section-answered s at g =
+    reaches-answered s (at + 2)
+    (or-else-answered 24 at (ltb (wordAt s at) (g .rows * g .columns)) (omega arith)
+    (mines-answered s (g .rows) (g .columns) (at + 2) 0 (wordAt s at) (eventsFrom s (eventCountAt s at) g (at + 2) (wordAt s at))
+    (events-answered s (eventCountAt s at) g (at + 2) (wordAt s at))))
+
+settings-answered : (s : List ℕ) {rest : Book} → Answered rest → Answered (settingsSection s rest)
+unfolding settingsSection
+settings-answered s a =
     reaches-answered s 1
     (or-else-answered 41 0 (eqb (byteAt s 0) 4) (omega arith)
     (reaches-answered s 5
     (or-else-answered 41 4 (leb (byteAt s 4) 1) (omega arith)
     (or-else-answered 20 1 (sizeOk (byteAt s 1) (byteAt s 2)) (omega arith)
-    (or-else-answered 25 3 (modeOk (byteAt s 3)) (omega arith)
-    (reaches-answered s 7
-    (or-else-answered 24 5 (ltb (wordAt s 5) (byteAt s 1 * byteAt s 2)) (omega arith)
-    (mines-answered s (byteAt s 1) (byteAt s 2) 7 0 (wordAt s 5) (eventsFrom s (eventCountAt s) (settingsAt s) 7 (wordAt s 5))
-    (events-answered s (eventCountAt s) (settingsAt s) 7 (wordAt s 5))))))))))
+    (or-else-answered 25 3 (modeOk (byteAt s 3)) (omega arith) a)))))
+
+sections-answered : (s : List ℕ) → Answered (sectionsOf s)
+unfolding sectionsOf
+sections-answered s = settings-answered s (section-answered s 5 (settingsAt s))
+
+-- what holds of a book and of every refusal holds of it with its end tested
+end-either : (P : Book → Type 0) (s : List ℕ) (end : ℕ) (b : Book) → P b → P (refusedBook 43 end) → P (bookEnds s end b)
+unfolding bookEnds
+end-either P s end b p q =
+    pick-both P (eqb (b .number) 0) (orElse 43 end (leb (length s) end) b) b (λ _. or-else-both (leb (length s) end)) (λ _. p)
+  where
+    or-else-both : (t : Bool) → P (orElse 43 end t b)
+    or-else-both true = p
+    or-else-both false = q
+
+-- the numbers that refuse a book are 20 and above, and a refused book tells nothing but its number and its place
+pub book-answered : (s : List ℕ) → Answered (bookOf s)
+unfolding bookOf
+book-answered s = end-either Answered s (eventsEnd (sectionsOf s)) (sectionsOf s) (sections-answered s) (refused 43 (eventsEnd (sectionsOf s)) (omega arith))
 
 -- ---- the parts -------------------------------------------------------------------------------------------------------------------------
 
@@ -184,38 +267,45 @@ pub record Within (s : List ℕ) (b : Book) : Type 0 where
   pub mines : b .«mines_at» + 2 * b .mines ≤ length s
   pub events : b .«events_at» + 3 * b .events ≤ length s
 
-within-by : (s : List ℕ) {b : Book} → b ≡ bookOf s → Answered b → Within s b
-within-by s e (read z) =
-    let l : Laid s = accepted-laid s (ap (λ (x : Book). x .number) (sym e) ∙ z) in
-    subst (λ (x : Book). Within s x) (sym (e ∙ laid-read s l)) (record { mines = omega (arith, l .ends); events = omega (arith, l .ends) })
-within-by s e (refused n place h) = record { mines = omega arith; events = omega arith }
+sections-within : (s : List ℕ) → Within s (sectionsOf s)
+sections-within s = go (sectionsOf s) refl (sections-answered s)
+  where
+    go : (b : Book) → sectionsOf s ≡ b → Answered b → Within s b
+    go b e (read z) =
+        let l = sections-laid s (ap (λ (x : Book). x .number) e ∙ z) in
+        let there : endAt s 5 ≤ length s = l .1 .there in
+        subst (λ (x : Book). Within s x) (sym (sections-read s (l .0) (l .1)) ∙ e) (record { mines = omega arith; events = omega arith })
+    go _ e (refused n place h) = record { mines = omega arith; events = omega arith }
+
+-- the reader: the sections, then the end
+module _ (s : List ℕ) (b : Book) (e : b ≡ sectionsOf s) where
+  pub sections-fit : eventsEnd b ≤ length s
+  sections-fit = subst⁻¹ (λ (x : Book). eventsEnd x ≤ length s) e (sections-within s .events)
+
+  pub sections-end : {r : Book} → r ≡ bookEnds s (eventsEnd b) b → r ≡ bookOf s
+  unfolding bookOf
+  sections-end h = h ∙ ap (λ (x : Book). bookEnds s (eventsEnd x) x) e
 
 pub book-within : (s : List ℕ) → Within s (bookOf s)
-book-within s = within-by s refl (book-answered s)
+unfolding bookOf
+book-within s =
+    end-either (Within s) s (eventsEnd (sectionsOf s)) (sectionsOf s) (sections-within s) (record { mines = omega arith; events = omega arith })
 
 module _ (s : List ℕ) (b : Book) (e : b ≡ bookOf s) where
+  stands : Within s b
+  stands = subst⁻¹ (λ (x : Book). Within s x) e (book-within s)
+
   -- what `mines` and `events` hand back for a book is its mine list and its event records
   pub mines-part : partOf s (b .«mines_at») (2 * b .mines) ≡ minesOf s (bookOf s)
   unfolding minesOf
   mines-part =
-      part-there s (b .«mines_at») (2 * b .mines) (within-by s e (subst (λ (x : Book). Answered x) (sym e) (book-answered s)) .mines)
-      ∙ ap (λ (x : Book). take (2 * x .mines) (drop (x .«mines_at») s)) e
+      part-there s (b .«mines_at») (2 * b .mines) (stands .mines) ∙ ap (λ (x : Book). take (2 * x .mines) (drop (x .«mines_at») s)) e
 
   pub events-part : partOf s (b .«events_at») (3 * b .events) ≡ eventsOf s (bookOf s)
   unfolding eventsOf
   events-part =
-      part-there s (b .«events_at») (3 * b .events) (within-by s e (subst (λ (x : Book). Answered x) (sym e) (book-answered s)) .events)
-      ∙ ap (λ (x : Book). take (3 * x .events) (drop (x .«events_at») s)) e
+      part-there s (b .«events_at») (3 * b .events) (stands .events) ∙ ap (λ (x : Book). take (3 * x .events) (drop (x .«events_at») s)) e
 
 -- n bytes of a part that stands in s
 pub part-length : (s : List ℕ) (at n : ℕ) → at + n ≤ length s → length (take n (drop at s)) ≡ n
 part-length s at n h = length-take-le n (drop at s) (simp length-drop (omega arith))
-
-module _ (s : List ℕ) where
-  pub mines-length : length (minesOf s (bookOf s)) ≡ 2 * bookOf s .mines
-  unfolding minesOf
-  mines-length = part-length s (bookOf s .«mines_at») (2 * bookOf s .mines) (book-within s .mines)
-
-  pub events-length : length (eventsOf s (bookOf s)) ≡ 3 * bookOf s .events
-  unfolding eventsOf
-  events-length = part-length s (bookOf s .«events_at») (3 * bookOf s .events) (book-within s .events)

@@ -1,20 +1,18 @@
 -- The theorems on the book: one outcome, what is accepted, a written book reads back to itself, and what an accepted book may be used for.
 use mathlib.Core.Path.{_≡_, _∙_, sym, ap}
 use mathlib.Core.List.{List}
-use Prim.Native.Nat.{ℕ, _*_, _≤_}
-use native.Mathlib.Omega.{arith}
+use Prim.Native.Nat.{ℕ, _*_}
 use borrow.Author.Tests.{lt-ltb, eq-eqb}
 use lib.ListN.{length}
 use lib.IntN.{ℤ}
 use Rattle.rules.specs.declared.Settings.{Settings}
 use Rattle.rules.specs.declared.Book.{Book}
 use Rattle.rules.specs.Board.{numberingRefusal}
-use Rattle.rules.specs.Book.{byteAt, bookOf, minesOf, eventsOf}
+use Rattle.rules.specs.Book.{bookOf, minesOf, eventsOf}
 use Rattle.book.specs.Parts.{partOf}
 use Rattle.book.specs.Laid.{Laid}
-use Rattle.book.specs.Written.{written, Writable, Bytes, IsWritten, longest}
-use Rattle.cells.proofs.Grid.{size-limits}
-use Rattle.book.proofs.Accepting.{accepted-laid, laid-read}
+use Rattle.book.specs.Written.{written, Writable, Bytes, IsWritten}
+use Rattle.book.proofs.Accepting.{laid-read}
 use Rattle.book.proofs.Writing.{written-read, written-mines, written-events, accepted-writable, accepted-written}
 
 -- ---- any two outcomes that the contracts allow are equal -------------------------------------------------------------------------------
@@ -70,10 +68,3 @@ pub accepted-numbers : (s : List ℕ) (B : List ℤ) → bookOf s .number ≡ 0 
     → numberingRefusal (bookOf s .settings .rows) (bookOf s .settings .columns) (minesOf s (bookOf s)) B ≡ 0
 accepted-numbers s B e fits =
     writable-numbers (bookOf s .settings) (minesOf s (bookOf s)) (eventsOf s (bookOf s)) B (accepted-writable s e) fits
-
--- no book is longer than the longest
-pub accepted-longest : (s : List ℕ) → bookOf s .number ≡ 0 → length s ≤ longest
-accepted-longest s e =
-    let l : Laid s = accepted-laid s e in
-    let cells : byteAt s 1 * byteAt s 2 ≤ 2048 = size-limits (byteAt s 1) (byteAt s 2) (l .size) .cells in
-    omega (arith, l .ends, l .fewer, l .few)

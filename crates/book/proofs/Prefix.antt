@@ -4,7 +4,7 @@ use mathlib.Core.Bool.{Bool, true, false}
 use mathlib.Core.List.{List}
 use Prim.Native.Nat.{ℕ, zero, suc, _+_, _*_, _<_, _≤_}
 use native.Mathlib.Omega.{arith}
-use native.Mathlib.Decide.{decLt}
+use native.Mathlib.Decide.{decLt, ℕ-discrete}
 use borrow.Author.Tests.{le-leb, lt-leb, ne-eqb}
 use lib.Dec.{leb, eqb}
 use lib.ListN.{length, take, drop}
@@ -14,13 +14,13 @@ use Rattle.rules.specs.declared.Book.{Book}
 use Rattle.rules.specs.Grid.{sizeOk}
 use Rattle.rules.specs.Board.{mineOk}
 use Rattle.rules.specs.Calls.{modeOk}
-use Rattle.rules.specs.Book.{refusedBook, orElse, reaches, byteAt, wordAt, settingsAt, maxEvents, minesFrom, minesSection, eventsFrom, bookOf}
+use Rattle.rules.specs.Book.{refusedBook, orElse, reaches, byteAt, wordAt, settingsAt, maxEvents, minesFrom, minesSection, eventsFrom, settingsSection, sectionsOf, eventsEnd, bookEnds, bookOf}
 use Rattle.rules.specs.Printout.{printoutBy, printoutOf}
-use Rattle.book.specs.Written.{longest}
-use Rattle.book.proofs.Reading.{mines-too-many, mines-counted}
+use Rattle.book.specs.Written.{longestFrom, longest}
+use Rattle.book.proofs.Reading.{mines-too-many, mines-counted, end-unread, end-over}
+use Rattle.book.proofs.Accepting.{events-pass, sections-short, accepted-longest}
 use Rattle.book.proofs.Writing.{mine-same}
 use Rattle.cells.proofs.Grid.{size-limits}
-use Rattle.book.proofs.Book.{accepted-longest}
 
 or-else-same : (n place : ℕ) (t t′ : Bool) {rest rest′ : Book} → t ≡ t′ → (t′ ≡ true → rest ≡ rest′)
     → orElse n place t rest ≡ orElse n place t′ rest′
@@ -33,14 +33,6 @@ module _ (s : List ℕ) (at : ℕ) (g : Settings) (minesAt n : ℕ) where
   events-too-many : at + 2 ≤ length s → maxEvents < wordAt s at → eventsFrom s at g minesAt n ≡ refusedBook 44 at
   unfolding eventsFrom
   events-too-many h q = simp (le-leb _ _ h, lt-leb _ _ q)
-
-  events-left-over : wordAt s at ≤ maxEvents → at + 2 + 3 * wordAt s at < length s
-      → eventsFrom s at g minesAt n ≡ refusedBook 43 (at + 2 + 3 * wordAt s at)
-  unfolding eventsFrom
-  events-left-over few h =
-      let counted : at + 2 ≤ length s = omega arith in
-      let there : at + 2 + 3 * wordAt s at ≤ length s = omega arith in
-      simp (le-leb _ _ counted, le-leb _ _ few, le-leb _ _ there, lt-leb _ _ h)
 
 module _ (s : List ℕ) (n : ℕ) (long : longest < n) (more : n ≤ length s) where
   cut : List ℕ
@@ -66,8 +58,7 @@ module _ (s : List ℕ) (n : ℕ) (long : longest < n) (more : n ≤ length s) w
       let whole : end ≤ length s = omega arith in
       simp (le-leb _ _ short, le-leb _ _ whole) e
 
-  events-same : (at : ℕ) (g : Settings) (minesAt k : ℕ) → at + 2 + 3 * maxEvents ≤ longest
-      → eventsFrom cut at g minesAt k ≡ eventsFrom s at g minesAt k
+  events-same : (at : ℕ) (g : Settings) (minesAt k : ℕ) → at + 2 + 3 * maxEvents ≤ n → eventsFrom cut at g minesAt k ≡ eventsFrom s at g minesAt k
   events-same at g minesAt k h = either (decLt maxEvents (wordAt s at))
     where
       counts : wordAt cut at ≡ wordAt s at
@@ -78,38 +69,39 @@ module _ (s : List ℕ) (n : ℕ) (long : longest < n) (more : n ≤ length s) w
           events-too-many cut at g minesAt k (omega (arith, cut-length)) (omega (arith, counts))
           ∙ sym (events-too-many s at g minesAt k (omega arith) q)
       either (no q) =
-          events-left-over cut at g minesAt k (omega (arith, counts)) (omega (arith, cut-length, counts))
-          ∙ ap (λ (w : ℕ). refusedBook 43 (at + 2 + 3 * w)) counts ∙ sym (events-left-over s at g minesAt k (omega arith) (omega arith))
+          events-pass cut at g minesAt k (omega (arith, counts)) (omega (arith, cut-length, counts))
+          ∙ ap (λ (w : ℕ). record { number = 0; place = 0; settings = g; «mines_at» = minesAt; mines = k; «events_at» = at + 2; events = w }) counts
+          ∙ sym (events-pass s at g minesAt k (omega arith) (omega arith))
 
-  mine-cut : (R C k : ℕ) → 9 + 2 * k ≤ n → mineOk R C (drop 7 cut) k ≡ mineOk R C (drop 7 s) k
-  mine-cut R C k h =
-      mine-same R C (drop 7 cut) (drop 7 s) (suc k)
-      (λ j q. getD-drop 7 cut j 0 ∙ byte-same (7 + j) (omega arith) ∙ sym (getD-drop 7 s j 0)) k (omega arith)
+  mine-cut : (R C at k : ℕ) → at + 2 * k + 2 ≤ n → mineOk R C (drop at cut) k ≡ mineOk R C (drop at s) k
+  mine-cut R C at k h =
+      mine-same R C (drop at cut) (drop at s) (suc k)
+      (λ j q. getD-drop at cut j 0 ∙ byte-same (at + j) (omega arith) ∙ sym (getD-drop at s j 0)) k (omega arith)
 
-  list-same : (R C left k : ℕ) (rest rest′ : Book) → rest ≡ rest′ → 7 + 2 * (k + left) ≤ n
-      → minesFrom cut R C 7 k left rest ≡ minesFrom s R C 7 k left rest′
+  list-same : (R C at left k : ℕ) (rest rest′ : Book) → rest ≡ rest′ → at + 2 * (k + left) ≤ n
+      → minesFrom cut R C at k left rest ≡ minesFrom s R C at k left rest′
   unfolding minesFrom
-  list-same R C zero k rest rest′ e h = e
-  list-same R C (suc left) k rest rest′ e h =
-      reaches-same (7 + 2 * k + 2) (omega arith)
-      (or-else-same 42 (7 + 2 * k) (mineOk R C (drop 7 cut) k) (mineOk R C (drop 7 s) k) (mine-cut R C k (omega arith))
-      (λ _. list-same R C left (suc k) rest rest′ e (omega arith)))
+  list-same R C at zero k rest rest′ e h = e
+  list-same R C at (suc left) k rest rest′ e h =
+      reaches-same (at + 2 * k + 2) (omega arith)
+      (or-else-same 42 (at + 2 * k) (mineOk R C (drop at cut) k) (mineOk R C (drop at s) k) (mine-cut R C at k (omega arith))
+      (λ _. list-same R C at left (suc k) rest rest′ e (omega arith)))
 
-  section-same : (g : Settings) → g .rows * g .columns ≤ 2048 → minesSection cut 5 g ≡ minesSection s 5 g
-  section-same g small = either (decLt (wordAt s 5) (g .rows * g .columns))
+  section-same : (at : ℕ) (g : Settings) → longestFrom at ≤ n → g .rows * g .columns ≤ 2048 → minesSection cut at g ≡ minesSection s at g
+  section-same at g h small = either (decLt (wordAt s at) (g .rows * g .columns))
     where
-      counts : wordAt cut 5 ≡ wordAt s 5
-      counts = word-same 5 (omega arith)
+      counts : wordAt cut at ≡ wordAt s at
+      counts = word-same at (omega arith)
 
-      either : Dec (wordAt s 5 < g .rows * g .columns) → minesSection cut 5 g ≡ minesSection s 5 g
+      either : Dec (wordAt s at < g .rows * g .columns) → minesSection cut at g ≡ minesSection s at g
       either (yes q) =
-          mines-counted cut 5 g 0 0 (omega (arith, cut-length)) (omega (arith, counts))
-          ∙ ap (λ (w : ℕ). minesFrom cut (g .rows) (g .columns) 7 0 w (eventsFrom cut (7 + 2 * w) g 7 w)) counts
-          ∙ list-same (g .rows) (g .columns) (wordAt s 5) 0 _ _ (events-same (7 + 2 * wordAt s 5) g 7 (wordAt s 5) (omega arith)) (omega arith)
-          ∙ sym (mines-counted s 5 g 0 0 (omega arith) q)
+          mines-counted cut at g 0 0 (omega (arith, cut-length)) (omega (arith, counts))
+          ∙ ap (λ (w : ℕ). minesFrom cut (g .rows) (g .columns) (at + 2) 0 w (eventsFrom cut (at + 2 + 2 * w) g (at + 2) w)) counts
+          ∙ list-same (g .rows) (g .columns) (at + 2) (wordAt s at) 0 _ _ (events-same (at + 2 + 2 * wordAt s at) g (at + 2) (wordAt s at) (omega arith)) (omega arith)
+          ∙ sym (mines-counted s at g 0 0 (omega arith) q)
       either (no q) =
-          mines-too-many cut 5 g (wordAt cut 5) (g .rows * g .columns) (omega (arith, cut-length)) refl refl (omega (arith, counts))
-          ∙ sym (mines-too-many s 5 g (wordAt s 5) (g .rows * g .columns) (omega arith) refl refl (omega arith))
+          mines-too-many cut at g (wordAt cut at) (g .rows * g .columns) (omega (arith, cut-length)) refl refl (omega (arith, counts))
+          ∙ sym (mines-too-many s at g (wordAt s at) (g .rows * g .columns) (omega arith) refl refl (omega arith))
 
   settings-same : settingsAt cut ≡ settingsAt s
   settings-same =
@@ -119,9 +111,9 @@ module _ (s : List ℕ) (n : ℕ) (long : longest < n) (more : n ≤ length s) w
       let question : byteAt cut 4 ≡ byteAt s 4 = byte-same 4 (omega arith) in
       cc
 
-  book-same : bookOf cut ≡ bookOf s
-  unfolding bookOf
-  book-same =
+  sections-same : sectionsOf cut ≡ sectionsOf s
+  unfolding sectionsOf settingsSection
+  sections-same =
       let rows : byteAt cut 1 ≡ byteAt s 1 = byte-same 1 (omega arith) in
       let columns : byteAt cut 2 ≡ byteAt s 2 = byte-same 2 (omega arith) in
       let sizes : sizeOk (byteAt cut 1) (byteAt cut 2) ≡ sizeOk (byteAt s 1) (byteAt s 2) = cc in
@@ -132,7 +124,21 @@ module _ (s : List ℕ) (n : ℕ) (long : longest < n) (more : n ≤ length s) w
       (λ _. or-else-same 20 1 (sizeOk (byteAt cut 1) (byteAt cut 2)) (sizeOk (byteAt s 1) (byteAt s 2)) sizes
       (λ size. or-else-same 25 3 (modeOk (byteAt cut 3)) (modeOk (byteAt s 3)) (ap modeOk (byte-same 3 (omega arith)))
       (λ _. ap (λ (g : Settings). minesSection cut 5 g) settings-same
-      ∙ section-same (settingsAt s) (size-limits (byteAt s 1) (byteAt s 2) size .cells)))))))
+      ∙ section-same 5 (settingsAt s) (omega arith) (size-limits (byteAt s 1) (byteAt s 2) size .cells)))))))
+
+  -- where the sections end before the cut, bytes are left over on both sides
+  end-same : (end : ℕ) (b : Book) → (b .number ≡ 0 → end < n) → bookEnds cut end b ≡ bookEnds s end b
+  end-same end b h = either (ℕ-discrete (b .number) 0)
+    where
+      either : Dec (b .number ≡ 0) → bookEnds cut end b ≡ bookEnds s end b
+      either (yes z) = end-over cut end b z (omega (arith, h z, cut-length)) ∙ sym (end-over s end b z (omega (arith, h z)))
+      either (no z) = end-unread cut end b z ∙ sym (end-unread s end b z)
+
+  book-same : bookOf cut ≡ bookOf s
+  unfolding bookOf
+  book-same =
+      ap (λ (b : Book). bookEnds cut (eventsEnd b) b) sections-same
+      ∙ end-same (eventsEnd (sectionsOf s)) (sectionsOf s) (λ z. omega (arith, sections-short s z))
 
 -- the first n bytes, where n is more than the longest book has, get the answer of all
 pub prefix-read : (s : List ℕ) (n : ℕ) → longest < n → bookOf (take n s) ≡ bookOf s

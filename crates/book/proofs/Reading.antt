@@ -1,11 +1,11 @@
--- What the reader's functions need of the format: bounds of products of bytes, parts, and the mines section by cases.
+-- What the reader's functions need of the format: parts, and the mines section, the settings and the end by cases.
 use mathlib.Core.Path.{_≡_, _∙_, sym, ap, refl}
 use mathlib.Core.Bool.{true, false}
 use mathlib.Core.List.{List, []}
 use Prim.Native.Nat.{ℕ, zero, suc, _+_, _-_, _*_, _<_, _≤_}
 use native.Mathlib.Numerals.{add-one}
 use native.Mathlib.Omega.{arith}
-use borrow.Author.Tests.{lt-ltb, le-ltb, le-leb, lt-leb, eq-eqb}
+use borrow.Author.Tests.{lt-ltb, le-ltb, le-leb, lt-leb, eq-eqb, ne-eqb}
 use lib.Dec.{leb}
 use lib.ListN.{length, take, drop, getD}
 use lib.Seq.{getD-drop}
@@ -14,7 +14,7 @@ use Rattle.rules.specs.declared.Book.{Book}
 use Rattle.rules.specs.Grid.{sizeOk, cellOf}
 use Rattle.rules.specs.Board.{mineOk, mineCell, rises}
 use Rattle.rules.specs.Calls.{modeOk}
-use Rattle.rules.specs.Book.{refusedBook, byteAt, wordAt, settingsAt, minesFrom, minesSection, eventsFrom, bookOf}
+use Rattle.rules.specs.Book.{refusedBook, byteAt, wordAt, minesFrom, minesSection, eventsFrom, settingsSection, bookEnds}
 use Rattle.book.specs.Parts.{mineFits, partOf}
 
 -- ---- parts -----------------------------------------------------------------------------------------------------------------------------
@@ -178,25 +178,40 @@ module _ (s : List ℕ) (at : ℕ) (g : Settings) (mines place next n : ℕ) (no
 
 -- ---- the settings section, once its bytes are there ------------------------------------------------------------------------------------
 
-module _ (s : List ℕ) (four : byteAt s 0 ≡ 4) (five : 5 ≤ length s) where
+module _ (s : List ℕ) (rest : Book) (four : byteAt s 0 ≡ 4) (five : 5 ≤ length s) where
   some : 1 ≤ length s
   some = omega arith
 
-  pub question-wrong : leb (byteAt s 4) 1 ≡ false → bookOf s ≡ refusedBook 41 4
-  unfolding bookOf
+  pub question-wrong : leb (byteAt s 4) 1 ≡ false → settingsSection s rest ≡ refusedBook 41 4
+  unfolding settingsSection
   question-wrong question = simp (le-leb _ _ some, eq-eqb _ _ four, le-leb _ _ five, question)
 
-  pub size-wrong : leb (byteAt s 4) 1 ≡ true → sizeOk (byteAt s 1) (byteAt s 2) ≡ false → bookOf s ≡ refusedBook 20 1
-  unfolding bookOf
+  pub size-wrong : leb (byteAt s 4) 1 ≡ true → sizeOk (byteAt s 1) (byteAt s 2) ≡ false → settingsSection s rest ≡ refusedBook 20 1
+  unfolding settingsSection
   size-wrong question size = simp (le-leb _ _ some, eq-eqb _ _ four, le-leb _ _ five, question, size)
 
   pub mode-wrong : leb (byteAt s 4) 1 ≡ true → sizeOk (byteAt s 1) (byteAt s 2) ≡ true → modeOk (byteAt s 3) ≡ false
-      → bookOf s ≡ refusedBook 25 3
-  unfolding bookOf
+      → settingsSection s rest ≡ refusedBook 25 3
+  unfolding settingsSection
   mode-wrong question size mode = simp (le-leb _ _ some, eq-eqb _ _ four, le-leb _ _ five, question, size, mode)
 
-  -- what is left to read is the mines section
+  -- the rest is left to read
   pub settings-right : leb (byteAt s 4) 1 ≡ true → sizeOk (byteAt s 1) (byteAt s 2) ≡ true → modeOk (byteAt s 3) ≡ true
-      → bookOf s ≡ minesSection s 5 (settingsAt s)
-  unfolding bookOf
+      → settingsSection s rest ≡ rest
+  unfolding settingsSection
   settings-right question size mode = simp (le-leb _ _ some, eq-eqb _ _ four, le-leb _ _ five, question, size, mode)
+
+-- ---- the end ---------------------------------------------------------------------------------------------------------------------------
+
+module _ (s : List ℕ) (end : ℕ) (b : Book) where
+  pub end-unread : (b .number ≡ 0 → ⊥) → bookEnds s end b ≡ b
+  unfolding bookEnds
+  end-unread h = simp (ne-eqb _ _ h)
+
+  pub end-over : b .number ≡ 0 → end < length s → bookEnds s end b ≡ refusedBook 43 end
+  unfolding bookEnds
+  end-over z h = simp (eq-eqb _ _ z, lt-leb _ _ h)
+
+  pub end-right : b .number ≡ 0 → length s ≤ end → bookEnds s end b ≡ b
+  unfolding bookEnds
+  end-right z h = simp (eq-eqb _ _ z, le-leb _ _ h)

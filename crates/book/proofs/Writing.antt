@@ -1,19 +1,21 @@
 -- A written book reads back to itself, and an accepted book is the written form of what is read in it.
-use mathlib.Core.Path.{_≡_, _∙_, sym, ap, refl, subst}
+use mathlib.Core.Path.{_≡_, _∙_, sym, ap, ap₂, refl, subst, subst⁻¹}
 use mathlib.Core.Bool.{Bool, true, false}
-use mathlib.Core.List.{List, _∷_, _++_}
+use mathlib.Core.List.{List, _∷_, _++_, append-assoc}
 use Prim.Native.Nat.{ℕ, zero, suc, _+_, _*_, _/_, _%_, _<_, _≤_}
 use native.Mathlib.Omega.{arith}
 use lib.Dec.{eqb}
 use lib.ListN.{length, getD, take, drop, length-append, length-drop, take-append-drop, List·getD-append}
-use lib.Seq.{getD-drop, getD-take, getD-at, getD-append-add, take-at, drop-append-add, drop-drop, drop-cons, take-all}
+use lib.Seq.{getD-take, getD-at, getD-append-add, take-at, drop-append-add, drop-drop, drop-cons, take-all}
 use Rattle.rules.specs.declared.Settings.{Settings}
 use Rattle.rules.specs.declared.Book.{Book}
 use Rattle.rules.specs.Words.{bit, every}
+use Rattle.rules.specs.Grid.{sizeOk}
 use Rattle.rules.specs.Board.{minesIn, mineCell, rises, mineOk}
+use Rattle.rules.specs.Calls.{modeOk}
 use Rattle.rules.specs.Book.{byteAt, wordAt, settingsAt, bookOf, minesOf, eventsOf}
-use Rattle.book.specs.Laid.{Laid, eventCountAt}
-use Rattle.book.specs.Written.{word, settingsBytes, eventsIn, written, Writable, Bytes}
+use Rattle.book.specs.Laid.{SettingsLaid, LaidFrom, Laid, eventCountAt, endAt}
+use Rattle.book.specs.Written.{word, settingsBytes, eventsIn, sectionsBytes, written, Writable, Bytes}
 use Rattle.cells.proofs.Words.{every-same}
 use Rattle.book.proofs.Accepting.{accepted-laid, laid-read, part-length}
 
@@ -72,6 +74,77 @@ word-split s at bytes h =
     ∙ ap (λ (k : ℕ). byteAt s at ∷ byteAt s (at + 1) ∷ drop k s) last
     ∙ ap (λ (b : ℕ). b ∷ byteAt s (at + 1) ∷ drop (at + 2) s) low ∙ ap (λ (b : ℕ). wordAt s at % 256 ∷ b ∷ drop (at + 2) s) high
 
+-- a count that stands where a list ends
+word-there : (h : List ℕ) (n : ℕ) (rest : List ℕ) → wordAt (h ++ (word n ++ rest)) (length h) ≡ n
+word-there h n rest =
+    let low : byteAt (h ++ (word n ++ rest)) (length h) ≡ n % 256 = getD-at h (n % 256) (n / 256 ∷ rest) 0 (length h) refl in
+    let high : byteAt (h ++ (word n ++ rest)) (length h + 1) ≡ n / 256 = getD-append-add h (word n ++ rest) 1 0 in
+    omega (arith, word-back n)
+
+-- ---- written, then read: mines and events after bytes of any length --------------------------------------------------------------------
+
+module _ (h : List ℕ) (g : Settings) (ms es : List ℕ) (w : Writable g ms es) where
+  two : 2 * minesIn ms ≡ length ms
+  two = omega (arith, w .pairs)
+
+  three : 3 * eventsIn es ≡ length es
+  three = omega (arith, w .whole)
+
+  -- what stands before the event count
+  upto : List ℕ
+  upto = h ++ (word (minesIn ms) ++ ms)
+
+  upto-split : h ++ sectionsBytes ms es ≡ upto ++ (word (eventsIn es) ++ es)
+  unfolding upto
+  upto-split = sym (append-assoc h (word (minesIn ms) ++ ms) (word (eventsIn es) ++ es))
+
+  upto-length : length upto ≡ length h + 2 + length ms
+  unfolding upto
+  upto-length = simp length-append (omega arith)
+
+  whole-length : length (h ++ sectionsBytes ms es) ≡ length h + 4 + length ms + length es
+  whole-length = simp length-append (omega arith)
+
+  pub mine-count : wordAt (h ++ sectionsBytes ms es) (length h) ≡ minesIn ms
+  mine-count = word-there h (minesIn ms) (ms ++ (word (eventsIn es) ++ es))
+
+  pub events-place : eventCountAt (h ++ sectionsBytes ms es) (length h) ≡ length h + 2 + length ms
+  events-place = omega (arith, mine-count, two)
+
+  pub event-count : wordAt (h ++ sectionsBytes ms es) (eventCountAt (h ++ sectionsBytes ms es) (length h)) ≡ eventsIn es
+  event-count = ap₂ wordAt upto-split (events-place ∙ sym upto-length) ∙ word-there upto (eventsIn es) es
+
+  pub mines-there : take (2 * minesIn ms) (drop (length h + 2) (h ++ sectionsBytes ms es)) ≡ ms
+  mines-there =
+      ap (take (2 * minesIn ms)) (drop-append-add h (sectionsBytes ms es) 2)
+      ∙ take-at ms (word (eventsIn es) ++ es) (2 * minesIn ms) (sym two)
+
+  pub events-there : take (3 * eventsIn es) (drop (length h + 4 + length ms) (h ++ sectionsBytes ms es)) ≡ es
+  events-there =
+      let at : length h + 4 + length ms ≡ length upto + 2 = omega (arith, upto-length) in
+      ap (take (3 * eventsIn es)) (ap₂ drop at upto-split ∙ drop-append-add upto (word (eventsIn es) ++ es) 2)
+      ∙ take-all (3 * eventsIn es) es (omega (arith, three))
+
+  listed : every (mineOk (g .rows) (g .columns) (drop (length h + 2) (h ++ sectionsBytes ms es))) (minesIn ms) ≡ true
+  listed =
+      let after : List ℕ = word (eventsIn es) ++ es in
+      mines-same (g .rows) (g .columns) (drop (length h + 2) (h ++ sectionsBytes ms es)) ms (minesIn ms)
+      (λ j k. ap (λ (l : List ℕ). getD l j 0) (drop-append-add h (sectionsBytes ms es) 2) ∙ List·getD-append ms after 0 j (omega (arith, two)))
+      ∙ w .rising
+
+  pub sections-ends : length (h ++ sectionsBytes ms es) ≡ endAt (h ++ sectionsBytes ms es) (length h)
+  sections-ends = omega (arith, whole-length, events-place, event-count, three)
+
+  pub sections-written : LaidFrom (h ++ sectionsBytes ms es) (length h) g
+  sections-written =
+      record {
+        fewer = omega (arith, mine-count, w .fewer);
+        rising =
+            subst (λ (n : ℕ). every (mineOk (g .rows) (g .columns) (drop (length h + 2) (h ++ sectionsBytes ms es))) n ≡ true) (sym mine-count) listed;
+        few = omega (arith, event-count, w .few);
+        there = omega (arith, sections-ends);
+      }
+
 -- an accepted book from its settings, its count of mines, and the place and the count of its events
 abbrev told : Settings → ℕ → ℕ → ℕ → Book
 told g n at k = record { number = 0; place = 0; settings = g; «mines_at» = 7; mines = n; «events_at» = at; events = k }
@@ -81,64 +154,27 @@ told-same {g} {g′} {n} {n′} {at} {at′} {k} {k′} eg en ea ek =
     ap (λ (x : Settings). told x n at k) eg ∙ ap (λ (x : ℕ). told g′ x at k) en
     ∙ ap (λ (x : ℕ). told g′ n′ x k) ea ∙ ap (λ (x : ℕ). told g′ n′ at′ x) ek
 
--- ---- written, then read ----------------------------------------------------------------------------------------------------------------
+-- ---- a whole book ----------------------------------------------------------------------------------------------------------------------
 
 module _ (g : Settings) (ms es : List ℕ) (w : Writable g ms es) where
-  after : List ℕ
-  after = word (eventsIn es) ++ es
-
-  two : 2 * minesIn ms ≡ length ms
-  two = omega (arith, w .pairs)
-
-  three : 3 * eventsIn es ≡ length es
-  three = omega (arith, w .whole)
-
-  past : (k : ℕ) → byteAt (written g ms es) (7 + k) ≡ getD (ms ++ after) k 0
-  unfolding written after
-  past k = sym (getD-drop 7 (written g ms es) k 0)
-
-  mine-count : wordAt (written g ms es) 5 ≡ minesIn ms
-  unfolding written
-  mine-count = word-back (minesIn ms)
-
-  events-place : eventCountAt (written g ms es) ≡ 7 + length ms
-  events-place = omega (arith, mine-count, two)
-
-  event-count : wordAt (written g ms es) (eventCountAt (written g ms es)) ≡ eventsIn es
-  unfolding after
-  event-count =
-      let low : byteAt (written g ms es) (7 + length ms) ≡ eventsIn es % 256 =
-      past (length ms) ∙ getD-at ms (eventsIn es % 256) (eventsIn es / 256 ∷ es) 0 (length ms) refl in
-      let next : 7 + length ms + 1 ≡ 7 + (length ms + 1) = omega arith in
-      let high : byteAt (written g ms es) (7 + length ms + 1) ≡ eventsIn es / 256 =
-      ap (λ (i : ℕ). byteAt (written g ms es) i) next ∙ past (length ms + 1) ∙ getD-append-add ms after 1 0 in
-      ap (λ (i : ℕ). wordAt (written g ms es) i) events-place ∙ omega (arith, low, high, word-back (eventsIn es))
-
-  written-length : length (written g ms es) ≡ 9 + length ms + length es
-  unfolding written
-  written-length = simp length-append (omega arith)
-
   written-settings : settingsAt (written g ms es) ≡ g
   unfolding written
   written-settings = ap (λ (q : Bool). record { rows = g .rows; columns = g .columns; mode = g .mode; question = q }) (bit-back (g .question))
 
-  listed : every (mineOk (g .rows) (g .columns) (ms ++ after)) (minesIn ms) ≡ true
-  listed =
-      mines-same (g .rows) (g .columns) (ms ++ after) ms (minesIn ms) (λ j h. List·getD-append ms after 0 j (omega (arith, two))) ∙ w .rising
-
   -- what is written is laid out as a book
   pub written-laid : Laid (written g ms es)
-  unfolding written after
+  unfolding written
   written-laid =
       record {
-        four = refl;
-        question = bit-small (g .question);
-        size = w .size;
-        mode = w .mode;
-        fewer = omega (arith, mine-count, w .fewer);
-        rising = subst (λ (n : ℕ). every (mineOk (g .rows) (g .columns) (ms ++ after)) n ≡ true) (sym mine-count) listed;
-        few = omega (arith, event-count, w .few);
-        ends = omega (arith, written-length, events-place, event-count, three);
+        settings = record {
+          four = refl;
+          five = omega arith;
+          question = bit-small (g .question);
+          size = w .size;
+          mode = w .mode;
+        };
+        sections = subst⁻¹ (LaidFrom (written g ms es) 5) written-settings (sections-written (settingsBytes g) g ms es w);
+        ends = sections-ends (settingsBytes g) g ms es w;
       }
 
   -- it reads back: the settings, and where the mines and the events stand
@@ -153,97 +189,92 @@ module _ (g : Settings) (ms es : List ℕ) (w : Writable g ms es) where
         «events_at» = 9 + length ms;
         events = eventsIn es;
       }
+  unfolding written
   written-read =
-      let at : eventCountAt (written g ms es) + 2 ≡ 9 + length ms = omega (arith, events-place) in
-      laid-read (written g ms es) written-laid ∙ told-same written-settings mine-count at event-count
+      let at : eventCountAt (written g ms es) 5 + 2 ≡ 9 + length ms = omega (arith, events-place (settingsBytes g) g ms es w) in
+      laid-read (written g ms es) written-laid
+      ∙ told-same written-settings (mine-count (settingsBytes g) g ms es w) at (event-count (settingsBytes g) g ms es w)
 
   pub written-mines : minesOf (written g ms es) (bookOf (written g ms es)) ≡ ms
   unfolding minesOf written
   written-mines =
-      ap (λ (b : Book). take (2 * b .mines) (drop (b .«mines_at») (written g ms es))) written-read
-      ∙ take-at ms (word (eventsIn es) ++ es) (2 * minesIn ms) (sym two)
+      ap (λ (b : Book). take (2 * b .mines) (drop (b .«mines_at») (written g ms es))) written-read ∙ mines-there (settingsBytes g) g ms es w
 
   pub written-events : eventsOf (written g ms es) (bookOf (written g ms es)) ≡ es
   unfolding eventsOf written
   written-events =
-      let at : 9 + length ms ≡ 7 + (length ms + 2) = omega arith in
-      let rest : drop (9 + length ms) (written g ms es) ≡ es =
-      ap (λ (k : ℕ). drop k (written g ms es)) at ∙ sym (drop-drop (length ms + 2) 7 (written g ms es))
-      ∙ drop-append-add ms (word (eventsIn es) ++ es) 2 in
-      ap (λ (b : Book). take (3 * b .events) (drop (b .«events_at») (written g ms es))) written-read
-      ∙ ap (λ (l : List ℕ). take (3 * eventsIn es) l) rest ∙ take-all (3 * eventsIn es) es (omega (arith, three))
+      ap (λ (b : Book). take (3 * b .events) (drop (b .«events_at») (written g ms es))) written-read ∙ events-there (settingsBytes g) g ms es w
 
--- ---- read, then written ----------------------------------------------------------------------------------------------------------------
+-- ---- read, then written: mines and events from a place on ------------------------------------------------------------------------------
 
-module _ (s : List ℕ) (l : Laid s) where
+module _ (s : List ℕ) (at : ℕ) (g : Settings) (l : LaidFrom s at g) where
   mineList : List ℕ
-  mineList = take (2 * wordAt s 5) (drop 7 s)
+  mineList = take (2 * wordAt s at) (drop (at + 2) s)
 
   records : List ℕ
-  records = take (3 * wordAt s (eventCountAt s)) (drop (eventCountAt s + 2) s)
+  records = take (3 * wordAt s (eventCountAt s at)) (drop (eventCountAt s at + 2) s)
 
-  mineList-length : length mineList ≡ 2 * wordAt s 5
+  mineList-length : length mineList ≡ 2 * wordAt s at
   unfolding mineList
-  mineList-length = part-length s 7 (2 * wordAt s 5) (omega (arith, l .ends))
+  mineList-length = part-length s (at + 2) (2 * wordAt s at) (omega (arith, l .there))
 
-  records-length : length records ≡ 3 * wordAt s (eventCountAt s)
+  records-length : length records ≡ 3 * wordAt s (eventCountAt s at)
   unfolding records
-  records-length = part-length s (eventCountAt s + 2) (3 * wordAt s (eventCountAt s)) (omega (arith, l .ends))
+  records-length = part-length s (eventCountAt s at + 2) (3 * wordAt s (eventCountAt s at)) (omega (arith, l .there))
 
-  mines-back : minesIn mineList ≡ wordAt s 5
+  mines-back : minesIn mineList ≡ wordAt s at
   mines-back = omega (arith, mineList-length)
 
-  events-back : eventsIn records ≡ wordAt s (eventCountAt s)
+  events-back : eventsIn records ≡ wordAt s (eventCountAt s at)
   events-back = omega (arith, records-length)
 
-  still-rising : every (mineOk (byteAt s 1) (byteAt s 2) mineList) (wordAt s 5) ≡ true
+  still-rising : every (mineOk (g .rows) (g .columns) mineList) (wordAt s at) ≡ true
   unfolding mineList
   still-rising =
-      mines-same (byteAt s 1) (byteAt s 2) mineList (drop 7 s) (wordAt s 5) (λ j h. getD-take (2 * wordAt s 5) (drop 7 s) j 0 h) ∙ l .rising
+      mines-same (g .rows) (g .columns) mineList (drop (at + 2) s) (wordAt s at) (λ j h. getD-take (2 * wordAt s at) (drop (at + 2) s) j 0 h)
+      ∙ l .rising
 
-  laid-writable : Writable (settingsAt s) mineList records
-  laid-writable =
+  laid-writable : sizeOk (g .rows) (g .columns) ≡ true → modeOk (g .mode) ≡ true → Writable g mineList records
+  laid-writable size mode =
       record {
-        size = l .size;
-        mode = l .mode;
+        size = size;
+        mode = mode;
         pairs = omega (arith, mineList-length);
-        rising = subst (λ (n : ℕ). every (mineOk (byteAt s 1) (byteAt s 2) mineList) n ≡ true) (sym mines-back) still-rising;
+        rising = subst (λ (n : ℕ). every (mineOk (g .rows) (g .columns) mineList) n ≡ true) (sym mines-back) still-rising;
         fewer = omega (arith, mines-back, l .fewer);
         whole = omega (arith, records-length);
         few = omega (arith, events-back, l .few);
       }
 
-  settings-split : s ≡ settingsBytes (settingsAt s) ++ drop 5 s
-  settings-split =
-      drop-cons s 0 0 (omega (arith, l .ends)) ∙ ap (λ (t : List ℕ). byteAt s 0 ∷ t) (drop-cons s 1 0 (omega (arith, l .ends)))
-      ∙ ap (λ (t : List ℕ). byteAt s 0 ∷ byteAt s 1 ∷ t) (drop-cons s 2 0 (omega (arith, l .ends)))
-      ∙ ap (λ (t : List ℕ). byteAt s 0 ∷ byteAt s 1 ∷ byteAt s 2 ∷ t) (drop-cons s 3 0 (omega (arith, l .ends)))
-      ∙ ap (λ (t : List ℕ). byteAt s 0 ∷ byteAt s 1 ∷ byteAt s 2 ∷ byteAt s 3 ∷ t) (drop-cons s 4 0 (omega (arith, l .ends)))
-      ∙ ap (λ (b : ℕ). b ∷ byteAt s 1 ∷ byteAt s 2 ∷ byteAt s 3 ∷ byteAt s 4 ∷ drop 5 s) (l .four)
-      ∙ ap (λ (b : ℕ). 4 ∷ byteAt s 1 ∷ byteAt s 2 ∷ byteAt s 3 ∷ b ∷ drop 5 s) (sym (question-back (byteAt s 4) (l .question)))
-
-  mines-split : drop 7 s ≡ mineList ++ drop (eventCountAt s) s
+  mines-split : drop (at + 2) s ≡ mineList ++ drop (eventCountAt s at) s
   unfolding mineList
   mines-split =
-      sym (take-append-drop (2 * wordAt s 5) (drop 7 s)) ∙ ap (λ (t : List ℕ). mineList ++ t) (drop-drop (2 * wordAt s 5) 7 s)
+      sym (take-append-drop (2 * wordAt s at) (drop (at + 2) s)) ∙ ap (λ (t : List ℕ). mineList ++ t) (drop-drop (2 * wordAt s at) (at + 2) s)
 
-  records-rest : drop (eventCountAt s + 2) s ≡ records
-  unfolding records
-  records-rest =
-      sym (take-all (3 * wordAt s (eventCountAt s)) (drop (eventCountAt s + 2) s) (simp length-drop (omega (arith, l .ends))))
+  module _ (ends : length s ≡ endAt s at) where
+    records-rest : drop (eventCountAt s at + 2) s ≡ records
+    unfolding records
+    records-rest =
+        sym (take-all (3 * wordAt s (eventCountAt s at)) (drop (eventCountAt s at + 2) s) (simp length-drop (omega arith)))
 
-  laid-written : Bytes s → s ≡ written (settingsAt s) mineList records
-  unfolding written
-  laid-written bytes =
-      settings-split
-      ∙ ap (λ (t : List ℕ). settingsBytes (settingsAt s) ++ t) (word-split s 5 bytes (omega (arith, l .ends)))
-      ∙ ap (λ (t : List ℕ). settingsBytes (settingsAt s) ++ (word (wordAt s 5) ++ t)) mines-split
-      ∙ ap (λ (t : List ℕ). settingsBytes (settingsAt s) ++ (word (wordAt s 5) ++ (mineList ++ t)))
-      (word-split s (eventCountAt s) bytes (omega (arith, l .ends)))
-      ∙ ap (λ (t : List ℕ). settingsBytes (settingsAt s) ++ (word (wordAt s 5) ++ (mineList ++ (word (wordAt s (eventCountAt s)) ++ t))))
-      records-rest
-      ∙ ap (λ (n : ℕ). settingsBytes (settingsAt s) ++ (word n ++ (mineList ++ (word (wordAt s (eventCountAt s)) ++ records)))) (sym mines-back)
-      ∙ ap (λ (k : ℕ). settingsBytes (settingsAt s) ++ (word (minesIn mineList) ++ (mineList ++ (word k ++ records)))) (sym events-back)
+    sections-back : Bytes s → drop at s ≡ sectionsBytes mineList records
+    sections-back bytes =
+        word-split s at bytes (omega arith)
+        ∙ ap (λ (t : List ℕ). word (wordAt s at) ++ t) mines-split
+        ∙ ap (λ (t : List ℕ). word (wordAt s at) ++ (mineList ++ t)) (word-split s (eventCountAt s at) bytes (omega arith))
+        ∙ ap (λ (t : List ℕ). word (wordAt s at) ++ (mineList ++ (word (wordAt s (eventCountAt s at)) ++ t))) records-rest
+        ∙ ap (λ (n : ℕ). word n ++ (mineList ++ (word (wordAt s (eventCountAt s at)) ++ records))) (sym mines-back)
+        ∙ ap (λ (k : ℕ). word (minesIn mineList) ++ (mineList ++ (word k ++ records))) (sym events-back)
+
+-- the settings, then what follows them
+settings-split : (s : List ℕ) → SettingsLaid s → s ≡ settingsBytes (settingsAt s) ++ drop 5 s
+settings-split s l =
+    drop-cons s 0 0 (omega (arith, l .five)) ∙ ap (λ (t : List ℕ). byteAt s 0 ∷ t) (drop-cons s 1 0 (omega (arith, l .five)))
+    ∙ ap (λ (t : List ℕ). byteAt s 0 ∷ byteAt s 1 ∷ t) (drop-cons s 2 0 (omega (arith, l .five)))
+    ∙ ap (λ (t : List ℕ). byteAt s 0 ∷ byteAt s 1 ∷ byteAt s 2 ∷ t) (drop-cons s 3 0 (omega (arith, l .five)))
+    ∙ ap (λ (t : List ℕ). byteAt s 0 ∷ byteAt s 1 ∷ byteAt s 2 ∷ byteAt s 3 ∷ t) (drop-cons s 4 0 (omega (arith, l .five)))
+    ∙ ap (λ (b : ℕ). b ∷ byteAt s 1 ∷ byteAt s 2 ∷ byteAt s 3 ∷ byteAt s 4 ∷ drop 5 s) (l .four)
+    ∙ ap (λ (b : ℕ). 4 ∷ byteAt s 1 ∷ byteAt s 2 ∷ byteAt s 3 ∷ b ∷ drop 5 s) (sym (question-back (byteAt s 4) (l .question)))
 
 -- ---- an accepted book ------------------------------------------------------------------------------------------------------------------
 
@@ -255,11 +286,13 @@ module _ (s : List ℕ) (e : bookOf s .number ≡ 0) where
   unfolding minesOf eventsOf mineList records
   accepted-writable =
       subst (λ (b : Book). Writable (b .settings) (take (2 * b .mines) (drop (b .«mines_at») s)) (take (3 * b .events) (drop (b .«events_at») s)))
-      (sym (laid-read s laid)) (laid-writable s laid)
+      (sym (laid-read s laid)) (laid-writable s 5 (settingsAt s) (laid .sections) (laid .settings .size) (laid .settings .mode))
 
   pub accepted-written : Bytes s → s ≡ written (bookOf s .settings) (minesOf s (bookOf s)) (eventsOf s (bookOf s))
-  unfolding minesOf eventsOf mineList records
+  unfolding minesOf eventsOf mineList records written
   accepted-written bytes =
       subst
       (λ (b : Book). s ≡ written (b .settings) (take (2 * b .mines) (drop (b .«mines_at») s)) (take (3 * b .events) (drop (b .«events_at») s)))
-      (sym (laid-read s laid)) (laid-written s laid bytes)
+      (sym (laid-read s laid))
+      (settings-split s (laid .settings)
+      ∙ ap (λ (t : List ℕ). settingsBytes (settingsAt s) ++ t) (sections-back s 5 (settingsAt s) (laid .sections) (laid .ends) bytes))

@@ -4,6 +4,7 @@ use mathlib.Core.Bool.{true}
 use mathlib.Core.List.{List}
 use Prim.Native.Nat.{ℕ, _+_, _*_, _<_, _≤_}
 use lib.ListN.{length, drop}
+use Rattle.rules.specs.declared.Settings.{Settings}
 use Rattle.rules.specs.declared.Book.{Book}
 use Rattle.rules.specs.Words.{every}
 use Rattle.rules.specs.Grid.{sizeOk}
@@ -11,29 +12,46 @@ use Rattle.rules.specs.Board.{mineOk}
 use Rattle.rules.specs.Calls.{modeOk}
 use Rattle.rules.specs.Book.{byteAt, wordAt, settingsAt, maxEvents}
 
--- the mine count stands at 5, the mines from 7 on, and the event count after them
-abbrev pub eventCountAt : List ℕ → ℕ
-eventCountAt s = 7 + 2 * wordAt s 5
-
--- a byte string has the form of a book
-pub record Laid (s : List ℕ) : Type 0 where
+-- the bytes of the settings are there and right
+pub record SettingsLaid (s : List ℕ) : Type 0 where
   pub four : byteAt s 0 ≡ 4
+  pub five : 5 ≤ length s
   pub question : byteAt s 4 ≤ 1
   pub size : sizeOk (byteAt s 1) (byteAt s 2) ≡ true
   pub mode : modeOk (byteAt s 3) ≡ true
-  pub fewer : wordAt s 5 < byteAt s 1 * byteAt s 2
-  pub rising : every (mineOk (byteAt s 1) (byteAt s 2) (drop 7 s)) (wordAt s 5) ≡ true
-  pub few : wordAt s (eventCountAt s) ≤ maxEvents
-  pub ends : length s ≡ eventCountAt s + 2 + 3 * wordAt s (eventCountAt s)
+
+-- the mine count stands at `at`, the mines after it, then the event count, the events to the end
+abbrev pub eventCountAt : List ℕ → ℕ → ℕ
+eventCountAt s at = at + 2 + 2 * wordAt s at
+
+abbrev pub endAt : List ℕ → ℕ → ℕ
+endAt s at = eventCountAt s at + 2 + 3 * wordAt s (eventCountAt s at)
+
+-- from there on mines and events are there and right
+pub record LaidFrom (s : List ℕ) (at : ℕ) (g : Settings) : Type 0 where
+  pub fewer : wordAt s at < g .rows * g .columns
+  pub rising : every (mineOk (g .rows) (g .columns) (drop (at + 2) s)) (wordAt s at) ≡ true
+  pub few : wordAt s (eventCountAt s at) ≤ maxEvents
+  pub there : endAt s at ≤ length s
+
+-- what is read in them
+abbrev pub readFrom : List ℕ → ℕ → Settings → Book
+readFrom s at g = record {
+  number = 0;
+  place = 0;
+  settings = g;
+  «mines_at» = at + 2;
+  mines = wordAt s at;
+  «events_at» = eventCountAt s at + 2;
+  events = wordAt s (eventCountAt s at);
+}
+
+-- a byte string has the form of a book
+pub record Laid (s : List ℕ) : Type 0 where
+  pub settings : SettingsLaid s
+  pub sections : LaidFrom s 5 (settingsAt s)
+  pub ends : length s ≡ endAt s 5
 
 -- what is read in it
 abbrev pub laidBook : List ℕ → Book
-laidBook s = record {
-  number = 0;
-  place = 0;
-  settings = settingsAt s;
-  «mines_at» = 7;
-  mines = wordAt s 5;
-  «events_at» = eventCountAt s + 2;
-  events = wordAt s (eventCountAt s);
-}
+laidBook s = readFrom s 5 (settingsAt s)

@@ -23,9 +23,13 @@ settingsBytes g = 4 ∷ g .rows ∷ g .columns ∷ g .mode ∷ bit (g .question)
 abbrev pub eventsIn : List ℕ → ℕ
 eventsIn es = length es / 3
 
+-- this mine list and these event records, each after its count
+abbrev pub sectionsBytes : List ℕ → List ℕ → List ℕ
+sectionsBytes ms es = word (minesIn ms) ++ (ms ++ (word (eventsIn es) ++ es))
+
 -- the book of these settings, this mine list and these event records
 unfoldable pub written : Settings → List ℕ → List ℕ → List ℕ
-written g ms es = settingsBytes g ++ (word (minesIn ms) ++ (ms ++ (word (eventsIn es) ++ es)))
+written g ms es = settingsBytes g ++ sectionsBytes ms es
 
 -- settings within their limits, mines on the board and rising, fewer than the cells, and at most 8,192 whole event records
 pub record Writable (g : Settings) (ms es : List ℕ) : Type 0 where
@@ -49,6 +53,9 @@ pub record IsWritten (s : List ℕ) : Type 0 where
   pub writable : Writable settings mines events
   pub same : s ≡ written settings mines events
 
--- the bytes of the longest book: at most 2,047 mines and 8,192 events
+-- the bytes of the longest book: at most 2,047 mines and 8,192 events, where the mine count stands at `at`
+abbrev pub longestFrom : ℕ → ℕ
+longestFrom at = at + (2 + 2 * 2047) + (2 + 3 * maxEvents)
+
 abbrev pub longest : ℕ
-longest = 5 + (2 + 2 * 2047) + (2 + 3 * maxEvents)
+longest = longestFrom 5

@@ -4,7 +4,7 @@ ghost use mathlib.Core.Path.{_≡_};
 ghost use Prim.Native.Nat.{_<_, _≤_, _+_, _*_};
 ghost use lib.ListN.{length};
 ghost use Rattle.rules.specs.Grid.{cellOf};
-ghost use Rattle.rules.specs.Book.{wordAt, refusedBook, bookEnds, eventsFrom, minesSection, bookOf};
+ghost use Rattle.rules.specs.Book.{wordAt, refusedBook, eventsFrom, minesSection, sectionsOf, bookEnds, bookOf};
 ghost use Rattle.book.specs.Parts.{mineFits, partOf};
 use rules::Book;
 use rules::Settings;
@@ -63,17 +63,7 @@ fn mine_fits(row: u8, column: u8, rows: u8, columns: u8, next: usize) -> bool
     next <= cell(row, column, columns)
 }
 
-// The book `b`, whose last section ends at `end`, unless bytes are left over.
-fn ended(s: &[u8], end: usize, b: Book) -> Book
-    ensures { λ r. ⌜ r ≡ bookEnds (now (s .entry)) end b ⌝ }
-{
-    if end < s.len() {
-        return refused(43, end);
-    }
-    b
-}
-
-// The events section at `at`, and the end of the book.
+// The events section at `at`.
 fn read_events(s: &[u8], at: usize, settings: Settings, mines_at: usize, mines: usize) -> Book
     requires { ⌜ at ≤ length (now s) ⌝ }
     ensures { λ r. ⌜ r ≡ eventsFrom (now (s .entry)) at settings «mines_at» mines ⌝ }
@@ -90,7 +80,7 @@ fn read_events(s: &[u8], at: usize, settings: Settings, mines_at: usize, mines: 
     if s.len() < end {
         return refused(40, s.len());
     }
-    let b = Book {
+    Book {
         number: 0,
         place: 0,
         settings,
@@ -98,8 +88,7 @@ fn read_events(s: &[u8], at: usize, settings: Settings, mines_at: usize, mines: 
         mines,
         events_at: first,
         events: n,
-    };
-    ended(s, end, b)
+    }
 }
 
 // The mines section at `at`, and what follows it. Each mine's two bytes are taken before they are tested.
@@ -136,9 +125,9 @@ fn read_mines(s: &[u8], at: usize, settings: Settings) -> Book
     read_events(s, place, settings, from, mines)
 }
 
-// What a byte string says as a book, or its first fault with the byte place.
-pub fn read_book(s: &[u8]) -> Book
-    ensures { λ r. ⌜ r ≡ bookOf (now (s .entry)) ⌝ }
+// The three sections, up to the last event, or their first fault with the byte place.
+fn read_sections(s: &[u8]) -> Book
+    ensures { λ r. ⌜ r ≡ sectionsOf (now (s .entry)) ⌝ }
 {
     if s.len() < 1 {
         return refused(40, s.len());
@@ -172,6 +161,28 @@ pub fn read_book(s: &[u8]) -> Book
         question: question == 1,
     };
     read_mines(s, 5, settings)
+}
+
+// The book `b`, whose last section ends at `end`, unless bytes are left over.
+fn ended(s: &[u8], end: usize, b: Book) -> Book
+    ensures { λ r. ⌜ r ≡ bookEnds (now (s .entry)) end b ⌝ }
+{
+    if b.number != 0 {
+        return b;
+    }
+    if end < s.len() {
+        return refused(43, end);
+    }
+    b
+}
+
+// What a byte string says as a book, or its first fault with the byte place.
+pub fn read_book(s: &[u8]) -> Book
+    ensures { λ r. ⌜ r ≡ bookOf (now (s .entry)) ⌝ }
+{
+    let b = read_sections(s);
+    let end = b.events_at + 3 * b.events;
+    ended(s, end, b)
 }
 
 // `n` bytes of `s` from `at` on, without a copy; none where they do not fit.

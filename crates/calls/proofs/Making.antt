@@ -4,7 +4,7 @@ use mathlib.Core.List.{List, _++_}
 use Prim.Native.Nat.{ℕ, _+_, _-_, _*_, _<_, _≤_}
 use native.Mathlib.Omega.{arith}
 use borrow.Author.Tests.{eq-eqb, ne-eqb, le-leb, lt-leb}
-use lib.ListN.{length, drop, replicate}
+use lib.ListN.{drop, replicate}
 use lib.IntN.{ℤ}
 use Rattle.rules.specs.declared.Settings.{Settings}
 use Rattle.rules.specs.declared.Position.{Position}
@@ -13,8 +13,8 @@ use Rattle.rules.specs.declared.GameState.the-variants.{Loss}
 use Rattle.rules.specs.States.{freshOf, withGame}
 use Rattle.rules.specs.Lent.{workRoom, workAfter}
 use Rattle.rules.specs.Judging.{total3bv}
-use Rattle.rules.specs.Clicks.{Desk}
-use Rattle.rules.specs.Calls.{SetUp, answers, setUp, setupBy, setupRefusal, setupOf, resetOf, totalRefusal, totalOf, positionCheck, lentRefusal, gameStateOf, bbbvSolvedOf, leftToSolveOf}
+use Rattle.rules.specs.Clicks.{Desk, desk}
+use Rattle.rules.specs.Calls.{SetUp, answers, freshDesk, setUp, setupBy, setupRefusal, setupOf, resetOf, totalRefusal, totalOf, positionCheck, lentRefusal, gameStateOf, bbbvSolvedOf, leftToSolveOf}
 use Rattle.cells.specs.Ground.{Sized, Mined, Zeros}
 use Rattle.cells.proofs.Filling.{cleared-zeros}
 use Rattle.cells.specs.Contracts.{Leaves}
@@ -65,13 +65,11 @@ module _ (n : ℕ) (otherwise : Position) (s : Settings) (shown bits : List ℕ)
   unfolding setupBy
   set-refused r e h = ap (λ (a : Answer). setUp a shown bits) e ∙ simp (ne-eqb n 0 h)
 
-  pub set-fresh : (r : Answer) (p : Position) (shown′ bits′ : List ℕ) → r ≡ answers 0 p 0 → p ≡ freshOf s → n ≡ 0
-      → shown′ ≡ replicate (length shown) 10 → bits′ ≡ replicate (length bits) 0 → setUp r shown′ bits′ ≡ setupBy n otherwise s shown bits
+  pub set-fresh : (r : Answer) (p : Position) (shown′ bits′ : List ℕ) → r ≡ answers 0 p 0 → n ≡ 0 → desk p shown′ bits′ ≡ freshDesk s
+      → setUp r shown′ bits′ ≡ setupBy n otherwise s shown bits
   unfolding setupBy
-  set-fresh r p shown′ bits′ e f z a b =
-      ap₂ (λ (x y : List ℕ). setUp r x y) a b
-      ∙ ap (λ (t : Answer). setUp t (replicate (length shown) 10) (replicate (length bits) 0)) (e ∙ ap (λ (q : Position). answers 0 q 0) f)
-      ∙ simp (eq-eqb n 0 z)
+  set-fresh r p shown′ bits′ e z f =
+      ap (λ (a : Answer). setUp a shown′ bits′) e ∙ ap (λ (d : Desk). setUp (answers 0 (d .position) 0) (d .shown) (d .bits)) f ∙ simp (eq-eqb n 0 z)
 
 module _ (x : SetUp) (n : ℕ) where
   pub setup-by : (p : Position) (s : Settings) (B : List ℤ) (shown bits : List ℕ) → x ≡ setupBy n p s shown bits → n ≡ setupRefusal s B shown bits → p ≡ freshOf s

@@ -3,8 +3,8 @@
 ghost use mathlib.Core.Path.{_≡_};
 ghost use Prim.Native.Nat.{_+_, _-_, _*_, _≤_};
 ghost use lib.ListN.{length};
-ghost use Rattle.rules.specs.Lent.{workRoom};
-ghost use Rattle.rules.specs.Calls.{answers, setUp, setupBy};
+ghost use Rattle.rules.specs.Lent.{bitBytes, workRoom};
+ghost use Rattle.rules.specs.Calls.{cellsIn, answers, setUp, setupBy};
 ghost use Rattle.cells.specs.Ground.{Mined};
 ghost use Rattle.calls.specs.Promises.{CheckBoardIs, NumberMinesIs, Total3bvIs, SetupIs, ResetIs, CheckPositionIs, StepGameStateIs, BbbvSolvedIs, LeftToSolveIs};
 ghost use Rattle.calls.specs.Parts.{TotalMade};
@@ -72,16 +72,15 @@ pub fn total_3bv(rows: u8, columns: u8, mines: &[i8], work: &mut [u16]) -> Value
 
 // ---- setup and reset -------------------------------------------------------------------------------------------------------------------
 
-// Every shown cell 10, every bit 0 and a fresh position; or refusal n, and the position that it gives back.
+// The fresh desk; or refusal n, and the position that it gives back.
 fn set_up(n: u16, otherwise: Position, s: Settings, shown: &mut [u8], bits: &mut [u8]) -> Answer
+    requires { ⌜ (n ≡ 0 → (length (now shown) ≡ cellsIn s) × (length (now bits) ≡ bitBytes (cellsIn s))) ⌝ }
     ensures { λ r. ⌜ setUp r (now (shown .exit)) (now (bits .exit)) ≡ setupBy n otherwise s (now (shown .entry)) (now (bits .entry)) ⌝ }
 {
     if n != 0 {
         return answer(n, otherwise, 0);
     }
-    cells::fill(&mut *shown, 10);
-    cells::fill(&mut *bits, 0);
-    let p = rules::fresh(s);
+    let p = boards::fresh_desk(s, &mut *shown, &mut *bits);
     answer(0, p, 0)
 }
 

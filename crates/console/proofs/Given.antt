@@ -4,13 +4,13 @@ use mathlib.Core.Bool.{Bool, true, false, _&&_}
 use mathlib.Core.List.{List, [], _∷_}
 use Prim.Native.Nat.{ℕ, _≤_, _%_}
 use lib.Dec.{eqb}
-use lib.ListN.{length, replicate}
+use lib.ListN.{length}
 use lib.IntN.{ℤ}
 use Rattle.rules.specs.declared.Answer.{Answer}
 use Rattle.rules.specs.Words.{pick}
 use Rattle.rules.specs.States.{freshOf}
 use Rattle.rules.specs.Clicks.{Desk, desk}
-use Rattle.rules.specs.Calls.{Outcome, setUp, answers, boardsFit, workFits, refused, flowRefusal, setupRefusal, setupBy, resetOf, stepOf, flowOf, leftToSolveOf}
+use Rattle.rules.specs.Calls.{Outcome, setUp, answers, freshDesk, boardsFit, workFits, refused, flowRefusal, setupRefusal, setupBy, resetOf, stepOf, flowOf, leftToSolveOf}
 use Rattle.refusals.specs.Rows.{first}
 use Rattle.board.proofs.Outcomes.{setup-refused, flow-refused, step-gives-back, step-game-state-gives-back, bbbv-solved-gives-back, left-to-solve-gives-back}
 use Rattle.flats.specs.declared.FlatPosition.{FlatPosition}
@@ -108,8 +108,11 @@ module _ (B : List ℤ) (f : FlatPosition) (shown bits : List ℕ) where
   unfolding resetFlat resetOf setupBy
   reset-back = go (setupRefusal (settingsIn f) B shown bits)
     where
+      d : Desk
+      d = freshDesk (settingsIn f)
+
       out : Bool → ℕ → Leaves FlatAnswer
-      out b n = resetOr f (pick b (setUp (answers 0 (freshOf (settingsIn f)) 0) (replicate (length shown) 10) (replicate (length bits) 0)) (setUp (answers n (positionIn f) 0) shown bits))
+      out b n = resetOr f (pick b (setUp (answers 0 (d .position) 0) (d .shown) (d .bits)) (setUp (answers n (positionIn f) 0) shown bits))
 
       by : (n : ℕ) (b : Bool) → eqb n 0 ≡ b → (out b n .answer .number ≡ 0 → ⊥) → out b n ≡ leaves (gives (out b n .answer .number) f 0) (shown ∷ bits ∷ [])
       by n true e h = absurd (h refl)

@@ -12,7 +12,7 @@ use Rattle.rules.specs.declared.Position.{Position}
 use Rattle.rules.specs.Words.{pick, unless}
 use Rattle.rules.specs.States.{withEvents}
 use Rattle.rules.specs.Clicks.{desk}
-use Rattle.rules.specs.Lawful.{lawful, countsLawful}
+use Rattle.rules.specs.Lawful.{lawful, lawfulRefusal, countsLawful}
 use Rattle.rules.specs.Calls.{boardsFit, workFits, settingsRefusal, positionRefusal, positionCheck, lentRefusal, flowRefusal}
 use Rattle.refusals.proofs.Refusals.{rest-by}
 use Rattle.flats.specs.declared.FlatPosition.{FlatPosition}
@@ -42,7 +42,7 @@ module _ (B : List ℤ) (f : FlatPosition) (shown bits : List ℕ) where
   odd-unlawful = unlawful B (positionIn f) shown bits
 
   pub unclear-position : (fit : Bool) → positionRefusal fit B (desk (withEvents (positionIn f) 65536) shown bits) ≡ unclear fit B f
-  unfolding positionRefusal unclear
+  unfolding positionRefusal lawfulRefusal unclear
   unclear-position fit = ap (λ (b : Bool). settingsRefusal (settingsIn f) fit B (unless 26 b 0)) (unlawful B (positionIn f) shown bits)
 
   pub unclear-check : positionCheck B (desk (withEvents (positionIn f) 65536) shown bits) ≡ unclear (boardsFit (settingsIn f) B shown bits) B f

@@ -8,7 +8,6 @@ use lib.IntN.{ℤ}
 use Rattle.rules.specs.declared.Book.{Book}
 use Rattle.rules.specs.declared.Position.{Position}
 use Rattle.rules.specs.declared.Settings.{Settings}
-use Rattle.rules.specs.States.{freshOf}
 use Rattle.rules.specs.Lent.{workRoom}
 use Rattle.rules.specs.Clicks.{Desk, desk, done}
 use Rattle.rules.specs.Calls.{plays, lastPlay, cellsIn}
@@ -43,17 +42,14 @@ cleared-blank g w =
     let m = length-replicate {0} {A = ℕ} n 0 in
     record { room = omega arith; zeros = cleared-zeros n w }
 
-module _ (s : List ℕ) (b : Book) (e : b ≡ bookOf s) (z : b .number ≡ 0) {B : List ℤ} {shown bits work₀ work : List ℕ} (g : Begun s b work₀ B shown bits work)
-    (p : Position) (ep : p ≡ freshOf (b .settings)) where
-  desk-is : desk p shown bits ≡ bookDesk b
-  desk-is = rw (ep, g .closed, g .unset) refl
-
+module _ (s : List ℕ) (b : Book) (e : b ≡ bookOf s) (z : b .number ≡ 0) {p : Position} {B : List ℤ} {shown bits work₀ work : List ℕ}
+    (g : Begun s b work₀ p B shown bits work) where
   pub game-lawful : LawfulAt B (desk p shown bits)
   game-lawful =
-      subst (λ (x : Desk). LawfulAt B x) (sym desk-is) (subst (λ (x : List ℤ). LawfulAt x (bookDesk b)) (sym (g .board)) (book-lawful s b e z))
+      subst (λ (x : Desk). LawfulAt B x) (sym (g .fresh)) (subst (λ (x : List ℤ). LawfulAt x (bookDesk b)) (sym (g .board)) (book-lawful s b e z))
 
   settings-are : p .settings ≡ b .settings
-  settings-are = ap (λ (x : Position). x .settings) ep
+  settings-are = ap (λ (d : Desk). d .position .settings) (g .fresh)
 
   pub game-blank : Blank (p .settings) work
   game-blank =
@@ -111,7 +107,7 @@ module _ (s : List ℕ) (b : Book) (e : b ≡ bookOf s) (z : b .number ≡ 0) {B
           put-as
           (ap (λ (d : Desk). gameLine (b .settings) ++ (eventLines 1 (plays B events (desk p shown bits)) ++ endLines B d)) (y .outcome)
           ∙ ap (λ (x : List ℤ). gameText (b .settings) x events (desk p shown bits)) (g .board)
-          ∙ ap₂ (λ (x : List ℕ) (d : Desk). gameText (b .settings) (bookBoard s b) x d) events-are desk-is
+          ∙ ap₂ (λ (x : List ℕ) (d : Desk). gameText (b .settings) (bookBoard s b) x d) events-are (g .fresh)
           ∙ sym (printout-played s b z) ∙ ap (printoutBy s) e)
           (put-then (w .put) (put-then (y .put) h))
 

@@ -81,8 +81,7 @@ pub fn print_game(
     ensures { λ r. ⌜ PutWithin 172184 (printoutOf (now (s .entry))) 0 (now (out .entry)) (now (out .exit)) r ⌝ }
 {
     let settings = b.settings;
-    printing::begin(s, b, &mut *mines, &mut *shown, &mut *bits, &mut *work);
-    let p = rules::fresh(settings);
+    let p = printing::begin(s, b, &mut *mines, &mut *shown, &mut *bits, &mut *work);
     let first = text::put_game_line(&mut *out, 0, settings);
     let events = book::events(s, b);
     let t = play_events(

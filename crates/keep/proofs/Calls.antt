@@ -6,12 +6,12 @@ use Prim.Native.Nat.{ℕ}
 use borrow.Author.Tests.{eqb-true}
 use lib.Dec.{eqb, leb}
 use lib.IntN.{ℤ}
-use lib.ListN.{length, getD, replicate}
+use lib.ListN.{getD}
 use Rattle.rules.specs.declared.Settings.{Settings}
 use Rattle.rules.specs.declared.Answer.{Answer}
 use Rattle.rules.specs.declared.GameState.the-variants.{Loss}
 use Rattle.rules.specs.Words.{pick}
-use Rattle.rules.specs.States.{isLoss, freshOf, withGame}
+use Rattle.rules.specs.States.{isLoss, withGame}
 use Rattle.rules.specs.Board.{faceAt}
 use Rattle.rules.specs.Clicks.{Desk, desk, done, on}
 use Rattle.rules.specs.Step.{stepOn}
@@ -25,11 +25,12 @@ use Rattle.keep.proofs.Opened.{lawful-later}
 use Rattle.keep.proofs.Step.{step-check, plays-follow}
 
 -- the fresh desk of settings that 20 to 25 did not refuse
-pub setup-lawful : (s : Settings) (B : List ℤ) (shown bits : List ℕ) → setupRefusal s B shown bits ≡ 0 → LawfulAt B (freshDesk s shown bits)
+pub setup-lawful : (s : Settings) (B : List ℤ) (shown bits : List ℕ) → setupRefusal s B shown bits ≡ 0 → LawfulAt B (freshDesk s)
 unfolding setupRefusal
 setup-lawful s B shown bits e =
     let a = settings-accepted s (boardsFit s B shown bits) B 0 e in
-    fresh-lawful B s shown bits (accepted-ground shown bits (a .0) (a .0 .fits))
+    let g = accepted-ground shown bits (a .0) (a .0 .fits) in
+    fresh-lawful B s (g .mined) (g .numbers)
 
 -- Loss by `step_game_state`
 pub lost-lawful : (B : List ℤ) (d : Desk) → LawfulAt B d → LawfulAt B (on d (withGame (d .position) Loss))
@@ -64,19 +65,21 @@ abbrev Accepts : List ℤ → Desk → Type 0
 Accepts B d = positionCheck B d ≡ 0
 
 -- setup
-pub setup-keeps : (s : Settings) (B : List ℤ) (shown bits : List ℕ) → setupRefusal s B shown bits ≡ 0 → Accepts B (freshDesk s shown bits)
+pub setup-keeps : (s : Settings) (B : List ℤ) (shown bits : List ℕ) → setupRefusal s B shown bits ≡ 0 → Accepts B (freshDesk s)
 unfolding setupRefusal
 setup-keeps s B shown bits e =
-    settings-check s (boardsFit s B shown bits) B 0 (freshDesk s shown bits) e refl (setup-lawful s B shown bits e)
+    settings-check s (boardsFit s B shown bits) B 0 (freshDesk s) e refl (setup-lawful s B shown bits e)
 
-setup-by : (B : List ℤ) (d : Desk) (n : ℕ) → (n ≡ 0 → Accepts B (freshDesk (d .position .settings) (d .shown) (d .bits))) → Accepts B d
+setup-by : (B : List ℤ) (d : Desk) (n : ℕ) → (n ≡ 0 → Accepts B (freshDesk (d .position .settings))) → Accepts B d
     → Accepts B (setBy (setupBy n (d .position) (d .position .settings) (d .shown) (d .bits)))
 unfolding setupBy
-setup-by B d n f e =
+setup-by B d n h e =
     pick-both (λ (o : SetUp). Accepts B (setBy o)) (eqb n 0)
-    (setUp (answers 0 (freshOf (d .position .settings)) 0) (replicate (length (d .shown)) 10) (replicate (length (d .bits)) 0))
-    (setUp (answers n (d .position) 0) (d .shown) (d .bits))
-    (λ z. f (eqb-true n 0 z)) (λ _. e)
+    (setUp (answers 0 (f .position) 0) (f .shown) (f .bits)) (setUp (answers n (d .position) 0) (d .shown) (d .bits))
+    (λ z. h (eqb-true n 0 z)) (λ _. e)
+  where
+    f : Desk
+    f = freshDesk (d .position .settings)
 
 -- reset
 pub reset-keeps : (B : List ℤ) (d : Desk) → Accepts B d → Accepts B (setBy (resetOf B d))

@@ -19,7 +19,7 @@ use Rattle.rules.specs.Grid.{sizeOk}
 use Rattle.rules.specs.Board.{faceAt, mineAt, valuesOk, numbersOk, someSafe, boardRefusal}
 use Rattle.rules.specs.Lent.{bitAt}
 use Rattle.rules.specs.Clicks.{Desk, isWon}
-use Rattle.rules.specs.Lawful.{countShown, shows, isFlag, isOpenOrHit, cellLawful, shownLawful, bitsLawful, countsLawful, gameLawful, statesLawful, lawful}
+use Rattle.rules.specs.Lawful.{countShown, shows, isFlag, isOpenOrHit, cellLawful, shownLawful, bitsLawful, countsLawful, gameLawful, statesLawful, lawful, lawfulRefusal}
 use Rattle.rules.specs.Calls.{cellsIn, boardsFit, modeOk, settingsRefusal, positionRefusal, positionCheck, lentRefusal, flowRefusal, workFits}
 use Rattle.cells.proofs.Words.{and-left, and-right, and-both, every-at, every-all, unless-passed}
 use Rattle.cells.proofs.Face.{values-valued}
@@ -197,6 +197,16 @@ kept-lawful B d h =
     (and-both _ _ (phase-game (d .position .game) B d (h .kept .phase))
     (mine-bit (isNotFlag (d .position .mouse)) (leb 1 (d .position .counts .right)) (λ e. le-leb _ _ (h .kept .held e))))))
 
+-- ---- the refusal of a position is 0 exactly if it is lawful ----------------------------------------------------------------------------
+
+pub lawful-passes : (B : List ℤ) (d : Desk) → lawful B d ≡ true → lawfulRefusal B d ≡ 0
+unfolding lawfulRefusal
+lawful-passes B d e = rw e
+
+pub passed-lawful : (B : List ℤ) (d : Desk) → lawfulRefusal B d ≡ 0 → lawful B d ≡ true
+unfolding lawfulRefusal
+passed-lawful B d e = unless-passed 25 (lawful B d) 0 e .0
+
 -- ---- the tests 20 to 26 ----------------------------------------------------------------------------------------------------------------
 
 -- 20 to 25 refused nothing, nor did the rest
@@ -218,8 +228,8 @@ pub position-lawful : (fit : Bool) (B : List ℤ) (d : Desk) → (fit ≡ true �
     → positionRefusal fit B d ≡ 0 → LawfulAt B d
 unfolding positionRefusal
 position-lawful fit B d f e =
-    let a = settings-accepted (d .position .settings) fit B (unless 26 (lawful B d) 0) e in
-    lawful-kept B d (accepted-ground (d .shown) (d .bits) (a .0) (f (a .0 .fits))) (unless-passed 25 (lawful B d) 0 (a .2) .0)
+    let a = settings-accepted (d .position .settings) fit B (lawfulRefusal B d) e in
+    lawful-kept B d (accepted-ground (d .shown) (d .bits) (a .0) (f (a .0 .fits))) (passed-lawful B d (a .2))
 
 pub check-lawful : (B : List ℤ) (d : Desk) → positionCheck B d ≡ 0 → LawfulAt B d
 unfolding positionCheck
@@ -266,10 +276,10 @@ unfolding positionCheck positionRefusal
 settings-check s fit B rest e ok es l =
     let a = settings-accepted s fit B rest ok in
     let b = refusal-fits (s .rows) (s .columns) fit B (a .0 .fits) (settings-passed s fit B rest ok) in
-    rw (ground-fits (l .kept .sound .ground), kept-lawful B e l) (subst⁻¹ (λ (s : Settings). settingsRefusal s true B 0 ≡ 0) es (settings-pass s B b (a .1)))
+    rw (ground-fits (l .kept .sound .ground), lawful-passes B e (kept-lawful B e l)) (subst⁻¹ (λ (s : Settings). settingsRefusal s true B 0 ≡ 0) es (settings-pass s B b (a .1)))
 
 -- so is one with the settings of a desk that it accepted
 pub check-passes : (B : List ℤ) (d e : Desk) → positionCheck B d ≡ 0 → e .position .settings ≡ d .position .settings → LawfulAt B e → positionCheck B e ≡ 0
 unfolding positionCheck positionRefusal
 check-passes B d e ok es l =
-    settings-check (d .position .settings) (boardsFit (d .position .settings) B (d .shown) (d .bits)) B (unless 26 (lawful B d) 0) e ok es l
+    settings-check (d .position .settings) (boardsFit (d .position .settings) B (d .shown) (d .bits)) B (lawfulRefusal B d) e ok es l

@@ -9,11 +9,11 @@ use lib.Dec.{leb, eqb}
 use lib.ListN.{length, getD, List·getD-eq-default}
 use lib.IntN.{ℤ, pos}
 use Rattle.rules.specs.declared.Position.{Position}
-use Rattle.rules.specs.Words.{pick, bit, count}
+use Rattle.rules.specs.Words.{pick, unless, bit, count}
 use Rattle.rules.specs.Board.{faceAt}
 use Rattle.rules.specs.Lent.{bitAt}
 use Rattle.rules.specs.Clicks.{Desk, desk}
-use Rattle.rules.specs.Lawful.{countShown, shows, isOpen, isFlag, isOpenOrHit, cellLawful, shownLawful, bitsLawful, countsLawful, statesLawful, lawful}
+use Rattle.rules.specs.Lawful.{countShown, shows, isOpen, isFlag, isOpenOrHit, cellLawful, shownLawful, bitsLawful, countsLawful, statesLawful, lawful, lawfulRefusal}
 use Rattle.rules.specs.States.{isLoss}
 use Rattle.lawful.specs.declared.Census.{Census}
 use Rattle.lawful.specs.Parts.{Counted, cellsLawful, bitLawful}
@@ -141,7 +141,8 @@ module _ (shown : List ℕ) (c : Census) (h : Counted shown (length shown) c) wh
 
 -- ---- all four --------------------------------------------------------------------------------------------------------------------------
 
-pub all-four : (B : List ℤ) (d : Desk) (a b c e : Bool) → a ≡ shownLawful B d → b ≡ bitsLawful B d → c ≡ countsLawful d → e ≡ statesLawful B d
-    → (a && (b && (c && e))) ≡ lawful B d
-unfolding lawful
-all-four B d a b c e ha hb hc he = ap₂ _&&_ ha (ap₂ _&&_ hb (ap₂ _&&_ hc he))
+-- all four together, found to be t
+pub all-four : (B : List ℤ) (d : Desk) {a b c e t : Bool} → a ≡ shownLawful B d → b ≡ bitsLawful B d → c ≡ countsLawful d → e ≡ statesLawful B d
+    → (a && (b && (c && e))) ≡ t → unless 26 t 0 ≡ lawfulRefusal B d
+unfolding lawful lawfulRefusal
+all-four B d ha hb hc he et = ap (λ (x : Bool). unless 26 x 0) (sym et ∙ ap₂ _&&_ ha (ap₂ _&&_ hb (ap₂ _&&_ hc he)))

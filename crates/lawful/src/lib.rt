@@ -7,7 +7,7 @@ ghost use lib.ListN.{length};
 ghost use Rattle.rules.specs.declared.Position.{Position};
 ghost use Rattle.rules.specs.States.{isLoss, isNotFlag};
 ghost use Rattle.rules.specs.Clicks.{desk};
-ghost use Rattle.rules.specs.Lawful.{cellLawful, shownLawful, bitsLawful, countsLawful, gameLawful, statesLawful, lawful};
+ghost use Rattle.rules.specs.Lawful.{cellLawful, shownLawful, bitsLawful, countsLawful, gameLawful, statesLawful, lawfulRefusal};
 ghost use Rattle.cells.specs.Ground.{Valued};
 ghost use Rattle.lawful.specs.Parts.{Counted, OneMore, Checkable, cellsLawful, bitLawful};
 use rules::GameState;
@@ -225,14 +225,18 @@ pub fn states_lawful(p: Position, mines: &[i8], shown: &[u8], c: Census) -> bool
 
 // ---- all four --------------------------------------------------------------------------------------------------------------------------
 
-pub fn is_lawful(p: Position, mines: &[i8], shown: &[u8], bits: &[u8]) -> bool
+// The refusal of a position that is not lawful, or 0.
+pub fn lawful_refusal(p: Position, mines: &[i8], shown: &[u8], bits: &[u8]) -> u16
     requires { ⌜ Checkable (now mines) (now shown) (now bits) ⌝ }
-    ensures { λ r. ⌜ r ≡ lawful (now (mines .entry)) (desk p (now (shown .entry)) (now (bits .entry))) ⌝ }
+    ensures { λ r. ⌜ r ≡ lawfulRefusal (now (mines .entry)) (desk p (now (shown .entry)) (now (bits .entry))) ⌝ }
 {
     let c = take_census(shown);
     let values = shown_lawful(p, mines, shown, c);
     let before = bits_lawful(mines, bits);
     let counts = counts_lawful(p, c);
     let states = states_lawful(p, mines, shown, c);
-    values & (before & (counts & states))
+    if values & (before & (counts & states)) {
+        return 0;
+    }
+    26
 }

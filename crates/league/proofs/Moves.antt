@@ -1,9 +1,9 @@
 -- The public calls on a position that the position check accepts, as quiet moves; and setup, which leads to such a position. Assumes nothing.
-use mathlib.Core.Path.{_≡_, refl, ap, _∙_, subst}
+use mathlib.Core.Path.{_≡_, refl, ap, _∙_}
 use mathlib.Core.List.{List, [], _∷_}
 use mathlib.Core.Bool.{Bool, true, false, _&&_}
 use Prim.Native.Nat.{ℕ, _%_}
-use lib.ListN.{length, replicate}
+use lib.ListN.{length}
 use lib.IntN.{ℤ}
 use lib.Dec.{leb, eqb}
 use borrow.Author.Tests.{eqb-true}
@@ -12,9 +12,8 @@ use Rattle.rules.specs.Words.{pick, unless}
 use Rattle.rules.specs.Grid.{sizeOk}
 use Rattle.rules.specs.Board.{boardRefusal}
 use Rattle.rules.specs.States.{freshOf}
-use Rattle.rules.specs.Lent.{bitBytes}
 use Rattle.rules.specs.Clicks.{Desk, Play, done}
-use Rattle.rules.specs.Lawful.{lawful}
+use Rattle.rules.specs.Lawful.{lawfulRefusal}
 use Rattle.rules.specs.Step.{stepOn}
 use Rattle.rules.specs.Calls.{
   Outcome,
@@ -42,11 +41,9 @@ use Rattle.rules.specs.Calls.{
   flowOf,
   cellsIn,
 }
-use Rattle.cells.proofs.Words.{and-left, and-right, unless-passed}
+use Rattle.cells.proofs.Words.{unless-passed}
 use Rattle.keep.specs.Kept.{leftBy, setBy}
-use Rattle.keep.proofs.Lawful.{settings-accepted}
 use Rattle.keep.proofs.Calls.{setup-keeps, step-call-keeps, flow-call-keeps}
-use Rattle.secrecy.specs.Demand.{freshStart}
 use Rattle.secrecy.proofs.Quiet.{over, aPlay, lostIn, Quiet, branch, then, only}
 use Rattle.secrecy.proofs.Hands.{idle}
 use Rattle.secrecy.proofs.Events.{step-quiet}
@@ -61,7 +58,7 @@ unfolding setupBy
 setup-number n s shown bits e = go (eqb n 0) refl e
   where
     go : (b : Bool) → eqb n 0 ≡ b
-        → pick b (setUp (answers 0 (freshOf s) 0) (replicate (length shown) 10) (replicate (length bits) 0)) (setUp (answers n (freshOf s) 0) shown bits) .answer .number ≡ 0 → n ≡ 0
+        → pick b (setUp (answers 0 (freshOf s) 0) (freshDesk s .shown) (freshDesk s .bits)) (setUp (answers n (freshOf s) 0) shown bits) .answer .number ≡ 0 → n ≡ 0
     go true d e = eqb-true n 0 d
     go false d e = e
 
@@ -69,28 +66,13 @@ setup-passed : (s : Settings) (B : List ℤ) (shown bits : List ℕ) → setupOf
 unfolding setupOf
 setup-passed s B shown bits e = setup-number (setupRefusal s B shown bits) s shown bits e
 
--- buffers that fit have their lengths, so the fresh desk is the one of the demand
-fresh-start : (s : Settings) (B : List ℤ) (shown bits : List ℕ) → boardsFit s B shown bits ≡ true → freshDesk s shown bits ≡ freshStart s
-unfolding boardsFit
-fresh-start s B shown bits e =
-    let rest = and-right (eqb (length B) (cellsIn s)) (eqb (length shown) (cellsIn s) && eqb (length bits) (bitBytes (cellsIn s))) e in
-    rw (
-      eqb-true (length shown) (cellsIn s) (and-left (eqb (length shown) (cellsIn s)) (eqb (length bits) (bitBytes (cellsIn s))) rest),
-      eqb-true (length bits) (bitBytes (cellsIn s)) (and-right (eqb (length shown) (cellsIn s)) (eqb (length bits) (bitBytes (cellsIn s))) rest),
-    )
-
-begins-fresh : (s : Settings) (B : List ℤ) (shown bits : List ℕ) → setupRefusal s B shown bits ≡ 0 → freshDesk s shown bits ≡ freshStart s
-unfolding setupRefusal
-begins-fresh s B shown bits e = fresh-start s B shown bits (settings-accepted s (boardsFit s B shown bits) B 0 e .0 .fits)
-
 -- an accepted setup begins the game of the demand, and the position check accepts it
-pub begins : (s : Settings) (B : List ℤ) (shown bits : List ℕ) → setupOf s B shown bits .answer .number ≡ 0 → setBy (setupOf s B shown bits) ≡ freshStart s
+pub begins : (s : Settings) (B : List ℤ) (shown bits : List ℕ) → setupOf s B shown bits .answer .number ≡ 0 → setBy (setupOf s B shown bits) ≡ freshDesk s
 unfolding setupOf setupBy
-begins s B shown bits e = rw (setup-passed s B shown bits e) (begins-fresh s B shown bits (setup-passed s B shown bits e))
+begins s B shown bits e = rw (setup-passed s B shown bits e)
 
-pub start-checked : (s : Settings) (B : List ℤ) (shown bits : List ℕ) → setupOf s B shown bits .answer .number ≡ 0 → positionCheck B (freshStart s) ≡ 0
-start-checked s B shown bits e =
-    let p = setup-passed s B shown bits e in subst (λ (d : Desk). positionCheck B d ≡ 0) (begins-fresh s B shown bits p) (setup-keeps s B shown bits p)
+pub start-checked : (s : Settings) (B : List ℤ) (shown bits : List ℕ) → setupOf s B shown bits .answer .number ≡ 0 → positionCheck B (freshDesk s) ≡ 0
+start-checked s B shown bits e = setup-keeps s B shown bits (setup-passed s B shown bits e)
 
 -- ---- the tests of a call -------------------------------------------------------------------------------------------------------------------
 
@@ -112,8 +94,8 @@ more-to-fit : (a b : Bool) (B : List ℤ) (d : Desk) → positionRefusal a B d �
 unfolding positionRefusal
 more-to-fit true true B d e = e
 more-to-fit false true B d e = e
-more-to-fit true false B d e = settings-false (d .position .settings) true B (unless 26 (lawful B d) 0) e
-more-to-fit false false B d e = settings-false (d .position .settings) false B (unless 26 (lawful B d) 0) e
+more-to-fit true false B d e = settings-false (d .position .settings) true B (lawfulRefusal B d) e
+more-to-fit false false B d e = settings-false (d .position .settings) false B (lawfulRefusal B d) e
 
 -- a call that is refused unless something fits, as a play
 tested : (t : Bool) (n : ℕ) (o : Outcome) (d : Desk) (work : List ℕ) → n ≡ unless 21 t 0

@@ -16,11 +16,11 @@ use Rattle.rules.specs.Words.{pick}
 use Rattle.rules.specs.Lent.{workRoom}
 use Rattle.rules.specs.Clicks.{Desk, Play, done}
 use Rattle.rules.specs.Step.{pointerOf, refusalAt, playAt, stepAt, stepBy, stepOn}
-use Rattle.rules.specs.Calls.{Outcome, workFits, setupOf, stepOf, flowOf, cellsIn}
+use Rattle.rules.specs.Calls.{freshDesk, Outcome, workFits, setupOf, stepOf, flowOf, cellsIn}
 use Rattle.cells.proofs.Words.{pick-both}
 use Rattle.keep.specs.Kept.{leftBy, setBy}
 use Rattle.game.proofs.Answers.{play-answers}
-use Rattle.secrecy.specs.Demand.{freshStart, playsOn}
+use Rattle.secrecy.specs.Demand.{playsOn}
 use Rattle.secrecy.proofs.Rows.{rowOf}
 use Rattle.league.specs.Secret.{Function, step, flow, Call, CallIs, playOf, Row, none, next, Playable, stepsOf, StepsPlay, RefusedStays}
 use Rattle.league.proofs.Moves.{step-move}
@@ -78,7 +78,7 @@ steps-row B (code ∷ r ∷ c ∷ es) d =
     ap (λ (x : Play). x ∷ rowOf B (moves (stepsOf es)) (x .desk)) (step-move code r c B d) ∙ ap (λ (l : List Play). o ∷ l) (steps-row B es (o .desk))
 
 pub steps-play : StepsPlay
-steps-play s events B os g = game-moves g ∙ steps-row B events (freshStart s)
+steps-play s events B os g = game-moves g ∙ steps-row B events (freshDesk s)
 
 -- ---- a refused event ---------------------------------------------------------------------------------------------------------------------
 

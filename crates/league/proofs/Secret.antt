@@ -4,9 +4,9 @@ use mathlib.Core.List.{List, [], _∷_}
 use lib.IntN.{ℤ}
 use Rattle.rules.specs.declared.Settings.{Settings}
 use Rattle.rules.specs.Clicks.{Desk, Play, desk}
-use Rattle.rules.specs.Calls.{SetUp, setupOf, positionCheck}
+use Rattle.rules.specs.Calls.{freshDesk, SetUp, setupOf, positionCheck}
 use Rattle.keep.specs.Kept.{setBy}
-use Rattle.secrecy.specs.Demand.{seenAll, freshStart, endOf, Twins}
+use Rattle.secrecy.specs.Demand.{seenAll, endOf, Twins}
 use Rattle.secrecy.proofs.Rows.{Move, rowOf, row-secrecy}
 use Rattle.league.specs.Secret.{Call, playOf, Row, none, next, Game, CodeDemand}
 use Rattle.league.proofs.Moves.{begins, start-checked, move, call-moves, call-keeps}
@@ -25,13 +25,13 @@ row-moves {B} (next {d = d} {call = call} {calls = calls} {os = os} work o w c r
     ∙ ap (λ (l : List Play). p ∷ l) (row-moves rest (call-keeps B d work o (call .function) c e) ∙ ap (λ (x : Play). rowOf B (moves calls) (x .desk)) q)
 
 -- a game is a row of moves from a fresh start
-pub game-moves : {s : Settings} {calls : List Call} {B : List ℤ} {os : List Play} → Game s calls B os → os ≡ rowOf B (moves calls) (freshStart s)
+pub game-moves : {s : Settings} {calls : List Call} {B : List ℤ} {os : List Play} → Game s calls B os → os ≡ rowOf B (moves calls) (freshDesk s)
 game-moves {s} {calls} {B} {os} g = row-moves (subst (λ (d : Desk). Row B d calls os) start (g .goes)) (start-checked s B (g .shown) (g .bits) ok)
   where
     ok : setupOf s B (g .shown) (g .bits) .answer .number ≡ 0
     ok = sym (ap (λ (u : SetUp). u .answer .number) (g .setup)) ∙ g .accepted
 
-    start : desk (g .begun .position) (g .board) (g .bytes) ≡ freshStart s
+    start : desk (g .begun .position) (g .board) (g .bytes) ≡ freshDesk s
     start = ap setBy (g .setup) ∙ begins s B (g .shown) (g .bits) ok
 
 -- THE theorem for the code

@@ -4,7 +4,7 @@ use mathlib.Core.Bool.{Bool, true, false}
 use mathlib.Core.List.{List}
 use Prim.Native.Nat.{ℕ, zero, suc, _+_, _*_, _/_, _≤_}
 use native.Mathlib.Omega.{arith}
-use borrow.Author.Tests.{leb-true}
+use borrow.Author.Tests.{leb-true, leb-false}
 use lib.Dec.{leb, ltb, eqb}
 use lib.IntN.{ℤ}
 use lib.ListN.{length, drop, take}
@@ -15,8 +15,9 @@ use Rattle.rules.specs.Grid.{sizeOk}
 use Rattle.rules.specs.Board.{mineOk}
 use Rattle.rules.specs.Calls.{modeOk}
 use Rattle.rules.specs.Lent.{bitBytes}
-use Rattle.rules.specs.Book.{byteAt, wordAt, orElse, reaches, maxEvents, eventsFrom, minesFrom, minesSection, settingsAt, bookOf}
+use Rattle.rules.specs.Book.{byteAt, wordAt, orElse, reaches, maxEvents, eventsFrom, minesFrom, minesSection, settingsAt, settingsSection, sectionsOf, eventsEnd, bookEnds, bookOf}
 use Rattle.rules.specs.Printout.{printoutBy, printoutOf}
+use Rattle.cells.proofs.Words.{pick-both}
 use Rattle.cells.proofs.Grid.{size-limits}
 use Rattle.book.proofs.Writing.{accepted-writable}
 use Rattle.writing.specs.Put.{PutWithin}
@@ -45,10 +46,9 @@ reaches-placed s end {rest} f = go (leb end (length s)) refl
 events-placed : (s : List ℕ) (at : ℕ) (g : Settings) (minesAt n : ℕ) → Placed (length s) (eventsFrom s at g minesAt n)
 unfolding eventsFrom
 events-placed s at g minesAt n =
-    let end : ℕ = at + 2 + 3 * wordAt s at in
     reaches-placed s (at + 2) (λ h.
     or-else-placed 44 at (leb (wordAt s at) maxEvents) (omega arith)
-    (reaches-placed s end (λ k. or-else-placed 43 end (leb (length s) end) k (record { within = omega arith }))))
+    (reaches-placed s (at + 2 + 3 * wordAt s at) (λ k. record { within = omega arith })))
 
 mines-placed : (s : List ℕ) (R C at n left : ℕ) (rest : Book) → Placed (length s) rest → Placed (length s) (minesFrom s R C at n left rest)
 unfolding minesFrom
@@ -57,19 +57,36 @@ mines-placed s R C at n (suc left) rest a =
     let more = mines-placed s R C at (suc n) left rest a in
     reaches-placed s (at + 2 * n + 2) (λ h. or-else-placed 42 (at + 2 * n) (mineOk R C (drop at s) n) (omega arith) more)
 
-book-placed : (s : List ℕ) → Placed (length s) (bookOf s)
-unfolding bookOf minesSection
-book-placed s =
+section-placed : (s : List ℕ) (at : ℕ) (g : Settings) → Placed (length s) (minesSection s at g)
+unfolding minesSection
+section-placed s at g =
+    reaches-placed s (at + 2) (λ h.
+    or-else-placed 24 at (ltb (wordAt s at) (g .rows * g .columns)) (omega arith)
+    (mines-placed s (g .rows) (g .columns) (at + 2) 0 (wordAt s at) (eventsFrom s (at + 2 + 2 * wordAt s at) g (at + 2) (wordAt s at))
+    (events-placed s (at + 2 + 2 * wordAt s at) g (at + 2) (wordAt s at))))
+
+settings-placed : (s : List ℕ) {rest : Book} → Placed (length s) rest → Placed (length s) (settingsSection s rest)
+unfolding settingsSection
+settings-placed s a =
     reaches-placed s 1 (λ one.
     or-else-placed 41 0 (eqb (byteAt s 0) 4) (omega arith)
     (reaches-placed s 5 (λ five.
     or-else-placed 41 4 (leb (byteAt s 4) 1) (omega arith)
     (or-else-placed 20 1 (sizeOk (byteAt s 1) (byteAt s 2)) (omega arith)
-    (or-else-placed 25 3 (modeOk (byteAt s 3)) (omega arith)
-    (reaches-placed s 7 (λ seven.
-    or-else-placed 24 5 (ltb (wordAt s 5) (byteAt s 1 * byteAt s 2)) (omega arith)
-    (mines-placed s (byteAt s 1) (byteAt s 2) 7 0 (wordAt s 5) (eventsFrom s (7 + 2 * wordAt s 5) (settingsAt s) 7 (wordAt s 5))
-    (events-placed s (7 + 2 * wordAt s 5) (settingsAt s) 7 (wordAt s 5))))))))))
+    (or-else-placed 25 3 (modeOk (byteAt s 3)) (omega arith) a)))))
+
+end-placed : (s : List ℕ) (end : ℕ) (b : Book) → Placed (length s) b → Placed (length s) (bookEnds s end b)
+unfolding bookEnds
+end-placed s end b a =
+    pick-both (Placed (length s)) (eqb (b .number) 0) (orElse 43 end (leb (length s) end) b) b (λ _. go (leb (length s) end) refl) (λ _. a)
+  where
+    go : (t : Bool) → leb (length s) end ≡ t → Placed (length s) (orElse 43 end t b)
+    go true e = a
+    go false e = record { within = let h = leb-false (length s) end e in omega arith }
+
+book-placed : (s : List ℕ) → Placed (length s) (bookOf s)
+unfolding bookOf sectionsOf
+book-placed s = end-placed s (eventsEnd (sectionsOf s)) (sectionsOf s) (settings-placed s (section-placed s 5 (settingsAt s)))
 
 module _ (s : List ℕ) (b : Book) (e : b ≡ bookOf s) where
   pub place-within : b .place ≤ length s

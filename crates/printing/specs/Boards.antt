@@ -6,9 +6,11 @@ use lib.ListN.{length, drop, replicate}
 use lib.IntN.{ℤ}
 use Rattle.rules.specs.declared.Book.{Book}
 use Rattle.rules.specs.declared.Settings.{Settings}
+use Rattle.rules.specs.declared.Position.{Position}
 use Rattle.rules.specs.Lent.{bitBytes, workRoom}
+use Rattle.rules.specs.Clicks.{desk}
 use Rattle.rules.specs.Calls.{cellsIn}
-use Rattle.rules.specs.Printout.{bookBoard}
+use Rattle.rules.specs.Printout.{bookBoard, bookDesk}
 
 -- the boards have the lengths of the settings, and the work its room
 pub record Fit (s : Settings) (mines : List ℤ) (shown bits work : List ℕ) : Type 0 where
@@ -17,9 +19,8 @@ pub record Fit (s : Settings) (mines : List ℤ) (shown bits work : List ℕ) : 
   pub byte : length bits ≡ bitBytes (cellsIn s)
   pub room : workRoom (cellsIn s) ≤ length work
 
--- the boards of a game that nobody has touched
-pub record Begun (s : List ℕ) (b : Book) (work : List ℕ) (mines : List ℤ) (shown bits work′ : List ℕ) : Type 0 where
+-- the position and the boards of a game that nobody has touched
+pub record Begun (s : List ℕ) (b : Book) (work : List ℕ) (p : Position) (mines : List ℤ) (shown bits work′ : List ℕ) : Type 0 where
   pub board : mines ≡ bookBoard s b
-  pub closed : shown ≡ replicate (cellsIn (b .settings)) 10
-  pub unset : bits ≡ replicate (bitBytes (cellsIn (b .settings))) 0
+  pub fresh : desk p shown bits ≡ bookDesk b
   pub blank : work′ ≡ replicate (workRoom (cellsIn (b .settings))) 0 ++ drop (workRoom (cellsIn (b .settings))) work

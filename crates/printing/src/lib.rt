@@ -18,7 +18,7 @@ use rules::Book;
 use rules::Played;
 use rules::Position;
 
-// The board of a book is numbered, every cell closed, every bit and the work 0.
+// The board of a book is numbered, its desk is fresh, and the work 0.
 pub fn begin(
     s: &[u8],
     b: Book,
@@ -26,19 +26,17 @@ pub fn begin(
     shown: &mut [u8],
     bits: &mut [u8],
     work: &mut [u16],
-)
+) -> Position
     requires { ⌜ (b ≡ bookOf (now s)) × (b .number ≡ 0) ⌝ }
     requires { ⌜ Fit (b .settings) (now mines) (now shown) (now bits) (now work) ⌝ }
-    ensures { λ _. ⌜ Begun (now (s .entry)) b (now (work .entry)) (now (mines .exit)) (now (shown .exit)) (now (bits .exit)) (now (work .exit)) ⌝ }
+    ensures { λ r. ⌜ Begun (now (s .entry)) b (now (work .entry)) r (now (mines .exit)) (now (shown .exit)) (now (bits .exit)) (now (work .exit)) ⌝ }
 {
-    let rows = b.settings.rows;
-    let columns = b.settings.columns;
+    let settings = b.settings;
     let list = book::mines(s, b);
-    numbering::number_mines(rows, columns, list, &mut *mines);
-    cells::fill(&mut *shown, 10);
-    cells::fill(&mut *bits, 0);
-    let cells = boards::cell_count(rows, columns);
+    numbering::number_mines(settings.rows, settings.columns, list, &mut *mines);
+    let cells = boards::cell_count(settings.rows, settings.columns);
     cells::clear(&mut *work, 8 * cells + 8);
+    boards::fresh_desk(settings, &mut *shown, &mut *bits)
 }
 
 // The line of a play, accepted or refused.

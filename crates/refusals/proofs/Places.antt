@@ -1,5 +1,5 @@
 -- No number but in its place of the order: each chain of refusals is its rows of the table, and a number is given exactly when its row is the first to apply.
-use mathlib.Core.Path.{_≡_, refl, ap, sym, _∙_}
+use mathlib.Core.Path.{_≡_, refl, ap, ap₂, sym, _∙_}
 use mathlib.Core.Bool.{Bool, true, false, _&&_}
 use mathlib.Core.List.{List, [], _∷_, _++_}
 use mathlib.Core.Logic.{_⊎_, inl, inr}
@@ -19,9 +19,9 @@ use Rattle.rules.specs.Board.{boardRefusal, boardCheck, numberingRefusal}
 use Rattle.rules.specs.Lent.{workRoom}
 use Rattle.rules.specs.Clicks.{Desk, done}
 use Rattle.rules.specs.Step.{eventRefusal, refusalAt, plainOf, playAt, stepAt, stepBy, stepOn, pointerOf}
-use Rattle.rules.specs.Lawful.{lawful}
+use Rattle.rules.specs.Lawful.{lawfulRefusal}
 use Rattle.rules.specs.Calls.{boardsFit, workFits, modeOk, settingsRefusal, positionRefusal, positionCheck, lentRefusal, flowRefusal, setupRefusal, totalRefusal}
-use Rattle.refusals.specs.Rows.{Row, row, first, Given, boardRows, settingsRows, positionRows, checkRows, lentRows, flowRows, setupRows, totalRows, numberingRows, preFlagOk, codeOk, eventRows}
+use Rattle.refusals.specs.Rows.{Row, row, first, Given, boardRows, settingsRows, lawfulRows, positionRows, checkRows, lentRows, flowRows, setupRows, totalRows, numberingRows, preFlagOk, codeOk, eventRows}
 use Rattle.refusals.proofs.Refusals.{rest-by}
 
 -- ---- any table -------------------------------------------------------------------------------------------------------------------------
@@ -82,14 +82,18 @@ module _ (s : Settings) (fit : Bool) (B : List ℤ) where
   unfolding settingsRefusal boardRefusal first
   settings-rows = sym (first-append (boardRows (s .rows) (s .columns) fit B) (row 25 (modeOk (s .mode)) ∷ []) (refl, (refl, (refl, (refl, (refl, tt))))))
 
+pub lawful-rows : (B : List ℤ) (d : Desk) → lawfulRefusal B d ≡ first (lawfulRows B d)
+unfolding lawfulRefusal first
+lawful-rows B d = refl
+
 module _ (fit : Bool) (B : List ℤ) (d : Desk) where
   pub position-rows : positionRefusal fit B d ≡ first (positionRows fit B d)
-  unfolding positionRefusal first
+  unfolding positionRefusal
   position-rows =
       let s = d .position .settings in
-      rest-by s fit B (unless 26 (lawful B d) 0)
-      ∙ ap (λ (n : ℕ). pick (eqb n 0) (unless 26 (lawful B d) 0) n) (settings-rows s fit B)
-      ∙ sym (first-append (settingsRows s fit B) (row 26 (lawful B d) ∷ []) (refl, (refl, (refl, (refl, (refl, (refl, tt)))))))
+      rest-by s fit B (lawfulRefusal B d)
+      ∙ ap₂ (λ (n m : ℕ). pick (eqb n 0) m n) (settings-rows s fit B) (lawful-rows B d)
+      ∙ sym (first-append (settingsRows s fit B) (lawfulRows B d) (refl, (refl, (refl, (refl, (refl, (refl, tt)))))))
 
 pub check-rows : (B : List ℤ) (d : Desk) → positionCheck B d ≡ first (checkRows B d)
 unfolding positionCheck

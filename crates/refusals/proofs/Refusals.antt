@@ -14,7 +14,7 @@ use Rattle.rules.specs.Lent.{bitBytes, workRoom}
 use Rattle.rules.specs.Board.{boardRefusal}
 use Rattle.rules.specs.Clicks.{Desk}
 use Rattle.rules.specs.Calls.{cellsIn, boardsFit, workFits, modeOk, settingsRefusal, positionRefusal, positionCheck, lentRefusal, setupRefusal, totalRefusal, flowRefusal}
-use Rattle.rules.specs.Lawful.{lawful}
+use Rattle.rules.specs.Lawful.{lawfulRefusal}
 use Rattle.cells.specs.Ground.{Mined}
 use Rattle.cells.proofs.Words.{and-left, and-right}
 use Rattle.lawful.specs.Parts.{Checkable}
@@ -74,13 +74,12 @@ module _ (s : Settings) (fit : Bool) (B : List ℤ) where
 module _ (fit : Bool) (B : List ℤ) (d : Desk) (n : ℕ) (e : n ≡ settingsRefusal (d .position .settings) fit B 0) where
   pub position-refused : (n ≡ 0 → ⊥) → n ≡ positionRefusal fit B d
   unfolding positionRefusal
-  position-refused h = e ∙ sym (rest-unheard (d .position .settings) fit B (unless 26 (lawful B d) 0) (λ q. h (e ∙ q)))
+  position-refused h = e ∙ sym (rest-unheard (d .position .settings) fit B (lawfulRefusal B d) (λ q. h (e ∙ q)))
 
-  -- with 26 for a position that is not lawful
-  pub position-last : (t : Bool) {b : Bool} → n ≡ 0 → t ≡ lawful B d → t ≡ b → unless 26 b 0 ≡ positionRefusal fit B d
+  -- then that of a position that is not lawful
+  pub position-last : {m : ℕ} → n ≡ 0 → m ≡ lawfulRefusal B d → m ≡ positionRefusal fit B d
   unfolding positionRefusal
-  position-last t z l m =
-      sym (rest-heard (d .position .settings) fit B (unless 26 (lawful B d) 0) (sym e ∙ z) ∙ ap (λ (u : Bool). unless 26 u 0) (sym l ∙ m))
+  position-last z l = l ∙ sym (rest-heard (d .position .settings) fit B (lawfulRefusal B d) (sym e ∙ z))
 
   -- what 20 to 25 have shown lets the position be checked
   pub checkable : n ≡ 0 → (fit ≡ true → boardsFit (d .position .settings) B (d .shown) (d .bits) ≡ true) → Checkable B (d .shown) (d .bits)
@@ -111,6 +110,15 @@ pub setup-is : (s : Settings) (B : List ℤ) (shown bits : List ℕ) (t : Bool) 
 unfolding setupRefusal
 setup-is s B shown bits t n e h = h ∙ ap (λ (u : Bool). settingsRefusal s u B 0) e
 
+-- 20 to 25 silent: the boards have their lengths
+pub setup-fits : (s : Settings) (B : List ℤ) (shown bits : List ℕ) (n : ℕ) → n ≡ setupRefusal s B shown bits → n ≡ 0
+    → (length shown ≡ cellsIn s) × (length bits ≡ bitBytes (cellsIn s))
+unfolding setupRefusal
+setup-fits s B shown bits n e z =
+    let a = settings-accepted s (boardsFit s B shown bits) B 0 (sym e ∙ z) in
+    let g = accepted-ground shown bits (a .0) (a .0 .fits) in
+    (g .board, g .room)
+
 module _ (R C : ℕ) (B : List ℤ) (work : List ℕ) where
   pub total-is : (m n : ℕ) → m ≡ R * C → n ≡ boardRefusal R C (eqb (length B) m && leb (8 * m + 8) (length work)) B → n ≡ totalRefusal R C B work
   unfolding totalRefusal
@@ -135,7 +143,7 @@ module _ (B : List ℤ) (d : Desk) (work : List ℕ) (n : ℕ) (e : n ≡ lentRe
   room =
       leb-true _ _
       (and-right (boardsFit (d .position .settings) B (d .shown) (d .bits)) _
-      (settings-accepted (d .position .settings) (boardsFit (d .position .settings) B (d .shown) (d .bits) && leb (workRoom (cellsIn (d .position .settings))) (length work)) B (unless 26 (lawful B d) 0) (sym e ∙ z) .0 .fits))
+      (settings-accepted (d .position .settings) (boardsFit (d .position .settings) B (d .shown) (d .bits) && leb (workRoom (cellsIn (d .position .settings))) (length work)) B (lawfulRefusal B d) (sym e ∙ z) .0 .fits))
 
   pub lent-mined : Mined B (d .position .settings .rows) (d .position .settings .columns) × (workRoom (cellsIn (d .position .settings)) ≤ length work)
   lent-mined = (lent-lawful B d work (sym e ∙ z) .kept .sound .ground .mined, room)

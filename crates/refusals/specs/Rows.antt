@@ -47,9 +47,13 @@ boardRows R C fit B = row 20 (sizeOk R C) ∷ row 21 fit ∷ row 22 (valuesOk B)
 abbrev pub settingsRows : Settings → Bool → List ℤ → List Row
 settingsRows s fit B = boardRows (s .rows) (s .columns) fit B ++ (row 25 (modeOk (s .mode)) ∷ [])
 
+-- 26
+abbrev pub lawfulRows : List ℤ → Desk → List Row
+lawfulRows B d = row 26 (lawful B d) ∷ []
+
 -- 20 to 26
 abbrev pub positionRows : Bool → List ℤ → Desk → List Row
-positionRows fit B d = settingsRows (d .position .settings) fit B ++ (row 26 (lawful B d) ∷ [])
+positionRows fit B d = settingsRows (d .position .settings) fit B ++ lawfulRows B d
 
 -- the rows of each call
 abbrev pub checkRows : List ℤ → Desk → List Row

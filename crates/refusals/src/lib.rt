@@ -52,10 +52,7 @@ pub fn position_refusal(p: Position, mines: &[i8], shown: &[u8], bits: &[u8], fi
     if n != 0 {
         return n;
     }
-    if !lawful::is_lawful(p, mines, shown, bits) {
-        return 26;
-    }
-    0
+    lawful::lawful_refusal(p, mines, shown, bits)
 }
 
 // The same for a call that is lent work.

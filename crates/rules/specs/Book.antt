@@ -6,6 +6,7 @@ use lib.Dec.{ltb, leb, eqb}
 use lib.ListN.{length, getD, take, drop}
 use Rattle.rules.specs.declared.Settings.{Settings}
 use Rattle.rules.specs.declared.Book.{Book}
+use Rattle.rules.specs.Words.{pick}
 use Rattle.rules.specs.Grid.{sizeOk}
 use Rattle.rules.specs.Board.{mineOk}
 use Rattle.rules.specs.Calls.{modeOk}
@@ -35,10 +36,6 @@ reaches s end rest = orElse 40 (length s) (leb end (length s)) rest
 
 -- ---- events: two-byte count, then code, row, column each ------------------------------------------------------------------------------
 
--- 43: bytes left over (the first)
-abbrev pub bookEnds : List ℕ → ℕ → Book → Book
-bookEnds s end b = orElse 43 end (leb (length s) end) b
-
 abbrev pub maxEvents : ℕ
 maxEvents = 8192
 
@@ -48,8 +45,7 @@ eventsFrom s at g minesAt n =
     reaches s (at + 2)
     (orElse 44 at (leb (wordAt s at) maxEvents)
     (reaches s (at + 2 + 3 * wordAt s at)
-    (bookEnds s (at + 2 + 3 * wordAt s at)
-    (record { number = 0; place = 0; settings = g; «mines_at» = minesAt; mines = n; «events_at» = at + 2; events = wordAt s at }))))
+    (record { number = 0; place = 0; settings = g; «mines_at» = minesAt; mines = n; «events_at» = at + 2; events = wordAt s at })))
 
 -- ---- mines: two-byte count, then row and column each, strictly rising in row order -----------------------------------------------------
 
@@ -61,6 +57,7 @@ minesFrom s R C at n (suc left) rest =
     let more = minesFrom s R C at (suc n) left rest in
     reaches s (at + 2 * n + 2) (orElse 42 (at + 2 * n) (mineOk R C (drop at s) n) more)
 
+-- what follows the settings, where the mine count stands at `at`;
 -- 24: at least as many mines as cells, tested once the mine count is read (its first byte)
 unfoldable pub minesSection : List ℕ → ℕ → Settings → Book
 minesSection s at g =
@@ -74,15 +71,31 @@ abbrev pub settingsAt : List ℕ → Settings
 settingsAt s = record { rows = byteAt s 1; columns = byteAt s 2; mode = byteAt s 3; question = eqb (byteAt s 4) 1 }
 
 -- the settings count is tested first, then that its four bytes are there, then question, size, mode
-unfoldable pub bookOf : List ℕ → Book
-bookOf s =
+unfoldable pub settingsSection : List ℕ → Book → Book
+settingsSection s rest =
     reaches s 1
     (orElse 41 0 (eqb (byteAt s 0) 4)
     (reaches s 5
     (orElse 41 4 (leb (byteAt s 4) 1)
     (orElse 20 1 (sizeOk (byteAt s 1) (byteAt s 2))
-    (orElse 25 3 (modeOk (byteAt s 3))
-    (minesSection s 5 (settingsAt s)))))))
+    (orElse 25 3 (modeOk (byteAt s 3)) rest)))))
+
+-- ---- the whole book --------------------------------------------------------------------------------------------------------------------
+
+-- the three sections: what stands up to the last event
+unfoldable pub sectionsOf : List ℕ → Book
+sectionsOf s = settingsSection s (minesSection s 5 (settingsAt s))
+
+-- where the last event ends
+abbrev pub eventsEnd : Book → ℕ
+eventsEnd b = b .«events_at» + 3 * b .events
+
+-- 43: bytes left over (the first), of a book without an earlier fault
+unfoldable pub bookEnds : List ℕ → ℕ → Book → Book
+bookEnds s end b = pick (eqb (b .number) 0) (orElse 43 end (leb (length s) end) b) b
+
+unfoldable pub bookOf : List ℕ → Book
+bookOf s = bookEnds s (eventsEnd (sectionsOf s)) (sectionsOf s)
 
 -- the parts of the book's own bytes that hold its mines and its event records
 unfoldable pub minesOf : List ℕ → Book → List ℕ

@@ -17,7 +17,7 @@ use Rattle.rules.specs.Lent.{bitBytes, workRoom, workAfter}
 use Rattle.rules.specs.Judging.{total3bv, leftToSolve}
 use Rattle.rules.specs.Clicks.{Desk, Play, desk, done}
 use Rattle.rules.specs.Step.{stepOn}
-use Rattle.rules.specs.Lawful.{lawful}
+use Rattle.rules.specs.Lawful.{lawfulRefusal}
 
 -- an answer, and what stands in the lent buffers after the call
 pub record Outcome : Type 0 where
@@ -55,7 +55,7 @@ settingsRefusal s fit B rest =
 
 -- 20 to 26
 unfoldable pub positionRefusal : Bool → List ℤ → Desk → ℕ
-positionRefusal fit B d = settingsRefusal (d .position .settings) fit B (unless 26 (lawful B d) 0)
+positionRefusal fit B d = settingsRefusal (d .position .settings) fit B (lawfulRefusal B d)
 
 -- the position check, callable by itself
 unfoldable pub positionCheck : List ℤ → Desk → ℕ
@@ -68,9 +68,9 @@ lentRefusal B d work =
 
 -- ---- setup and reset -------------------------------------------------------------------------------------------------------------------
 
--- every shown cell 10 and every bit and count 0
-abbrev pub freshDesk : Settings → List ℕ → List ℕ → Desk
-freshDesk s shown bits = desk (freshOf s) (replicate (length shown) 10) (replicate (length bits) 0)
+-- the fresh desk: every shown cell 10 and every bit and count 0
+abbrev pub freshDesk : Settings → Desk
+freshDesk s = desk (freshOf s) (replicate (cellsIn s) 10) (replicate (bitBytes (cellsIn s)) 0)
 
 pub record SetUp : Type 0 where
   pub answer : Answer
@@ -84,7 +84,7 @@ setUp a shown bits = record { answer = a; shown = shown; bits = bits }
 unfoldable pub setupBy : ℕ → Position → Settings → List ℕ → List ℕ → SetUp
 setupBy n otherwise s shown bits =
     pick (eqb n 0)
-    (setUp (answers 0 (freshOf s) 0) (replicate (length shown) 10) (replicate (length bits) 0))
+    (setUp (answers 0 (freshDesk s .position) 0) (freshDesk s .shown) (freshDesk s .bits))
     (setUp (answers n otherwise 0) shown bits)
 
 unfoldable pub setupRefusal : Settings → List ℤ → List ℕ → List ℕ → ℕ

@@ -7,7 +7,7 @@ use lib.ListN.{length, getD}
 use lib.IntN.{ℤ}
 use Rattle.rules.specs.declared.GameState.{GameState}
 use Rattle.rules.specs.declared.GameState.the-variants.{Ready, Playing, Win, Loss, PreFlaging}
-use Rattle.rules.specs.Words.{pick, count, every}
+use Rattle.rules.specs.Words.{pick, unless, count, every}
 use Rattle.rules.specs.States.{isLoss, isNotFlag}
 use Rattle.rules.specs.Board.{faceAt, mineAt}
 use Rattle.rules.specs.Lent.{bitAt}
@@ -96,3 +96,7 @@ statesLawful B d = gameLawful (d .position .game) B d && (not (isNotFlag (d .pos
 -- lawful means all of these
 unfoldable pub lawful : List ℤ → Desk → Bool
 lawful B d = shownLawful B d && (bitsLawful B d && (countsLawful d && statesLawful B d))
+
+-- the refusal of a position that is not lawful, or 0
+unfoldable pub lawfulRefusal : List ℤ → Desk → ℕ
+lawfulRefusal B d = unless 26 (lawful B d) 0

@@ -5,21 +5,21 @@ use mathlib.Core.Bool.{Bool, true, false, _&&_}
 use mathlib.Core.List.{List, [], _∷_, _++_}
 use Prim.Native.Nat.{ℕ, zero, suc}
 use lib.Dec.{leb, eqb}
-use lib.ListN.{getD, replicate}
+use lib.ListN.{getD}
 use lib.IntN.{ℤ, pos, negsuc}
 use Rattle.rules.specs.declared.Settings.{Settings}
 use Rattle.rules.specs.Words.{pick, count, every, inOrder, stackOf, below, rounds}
-use Rattle.rules.specs.States.{gameNumber, mouseNumber, mouseAt, freshOf}
+use Rattle.rules.specs.States.{gameNumber, mouseNumber, mouseAt}
 use Rattle.rules.specs.Grid.{sizeOk, ninth, cellBefore, neighbour, around, pushed}
 use Rattle.rules.specs.Board.{zeroAt, loneAt, mineOk, listedMine, numberedAt, numbered, numberingRefusal}
-use Rattle.rules.specs.Lent.{bitAt, withBit, bitBytes}
+use Rattle.rules.specs.Lent.{bitAt, withBit}
 use Rattle.rules.specs.Opening.{shownAfter, stackAfter, hitAfter, run, crossed, refreshed}
 use Rattle.rules.specs.Judging.{freeAt, kind, walk, walkFrom, judgedLeft, judgeOne, tally, openingsJudged, lones, total3bv}
-use Rattle.rules.specs.Clicks.{Desk, Play, done, desk, rowsOf, columnsOf, cellsOf, flagAt, isWon, ended, solvesLeft, leftOpens, leftClick, bitsWith, addsRce, takeBack, chordIsUseful, chordOpens, performChord}
+use Rattle.rules.specs.Clicks.{Desk, Play, done, rowsOf, columnsOf, cellsOf, flagAt, isWon, ended, solvesLeft, leftOpens, leftClick, bitsWith, addsRce, takeBack, chordIsUseful, chordOpens, performChord}
 use Rattle.rules.specs.Passes.{remainder, allClosed, ripeAt, listed, flagOne, flagAll, flagRound, flagPass, chordOne, chordScan, chordRound, chordPass, bothRound, bothPass, passesAfterFlag, passesAfterChord, rightClick, chordingClick}
 use Rattle.rules.specs.Mouse.{mouseTable, nextMouse, moved, bothDown, resolved, flipped}
 use Rattle.rules.specs.Step.{seenAt, leftAt, rightAt, chordAt, chordFrom, playLc, playLr, playRc, playRr, playing, preFlag, readyLc, readyRc, ready, preLeft, preLr, preCell, preRight, preRc, preFlaging, byGame, pointerOf, eventOf, errsPlaying, errsPreFlaging, badPreFlag, eventRefusal, plainOf, refusalAt, playAt, stepAt, stepBy, stepOn}
-use Rattle.rules.specs.Calls.{plays, lastPlay, cellsIn}
+use Rattle.rules.specs.Calls.{freshDesk, plays, lastPlay}
 use Rattle.rules.specs.Printout.{nineCounts, twoBv}
 
 pub record Row : Type 0 where
@@ -37,7 +37,7 @@ told s mines o =
     ++ (twoBv (numbered (s .rows) (s .columns) mines) (o .desk .position) ++ o .desk .shown)
 
 fresh : Settings → Play
-fresh s = done 0 (desk (freshOf s) (replicate (cellsIn s) 10) (replicate (bitBytes (cellsIn s)) 0))
+fresh s = done 0 (freshDesk s)
 
 -- the mine board of a row, and the refusal of its mine list
 abbrev boardIn : Row → List ℤ

@@ -2,18 +2,17 @@
 use mathlib.Core.List.{List, [], _∷_, _++_}
 use Prim.Native.Nat.{ℕ, zero, suc, _+_, _/_, _%_}
 use lib.Dec.{ltb, eqb}
-use lib.ListN.{take, drop, replicate}
+use lib.ListN.{take, drop}
 use lib.IntN.{ℤ}
 use Rattle.rules.specs.declared.Position.{Position}
 use Rattle.rules.specs.declared.Settings.{Settings}
 use Rattle.rules.specs.declared.Book.{Book}
 use Rattle.rules.specs.Words.{pick, bit}
-use Rattle.rules.specs.States.{gameNumber, mouseNumber, freshOf}
+use Rattle.rules.specs.States.{gameNumber, mouseNumber}
 use Rattle.rules.specs.Board.{numbered}
 use Rattle.rules.specs.Judging.{total3bv, leftToSolve}
-use Rattle.rules.specs.Clicks.{Desk, Play, desk, done}
-use Rattle.rules.specs.Calls.{plays, lastPlay, cellsIn}
-use Rattle.rules.specs.Lent.{bitBytes}
+use Rattle.rules.specs.Clicks.{Desk, Play, done}
+use Rattle.rules.specs.Calls.{freshDesk, plays, lastPlay}
 use Rattle.rules.specs.Book.{bookOf, minesOf, eventsOf}
 
 -- ---- text ------------------------------------------------------------------------------------------------------------------------------
@@ -102,7 +101,7 @@ abbrev pub bookBoard : List ℕ → Book → List ℤ
 bookBoard s b = numbered (b .settings .rows) (b .settings .columns) (minesOf s b)
 
 abbrev pub bookDesk : Book → Desk
-bookDesk b = desk (freshOf (b .settings)) (replicate (cellsIn (b .settings)) 10) (replicate (bitBytes (cellsIn (b .settings))) 0)
+bookDesk b = freshDesk (b .settings)
 
 -- the plays of a book
 abbrev pub bookPlays : List ℕ → Book → List Play

@@ -13,11 +13,11 @@ use Rattle.rules.specs.declared.Settings.{Settings}
 use Rattle.rules.specs.Words.{count}
 use Rattle.rules.specs.Board.{face, faceAt, mineAt, boardCheck}
 use Rattle.rules.specs.Clicks.{Desk, Play}
-use Rattle.rules.specs.Calls.{cellsIn}
+use Rattle.rules.specs.Calls.{freshDesk, cellsIn}
 use Rattle.cells.specs.Ground.{Valued}
 use Rattle.cells.proofs.Face.{values-valued}
 use Rattle.keep.proofs.Lawful.{board-accepted}
-use Rattle.secrecy.specs.Demand.{Seen, seen, seenAll, freshStart, lastDesk, endOf, Twins}
+use Rattle.secrecy.specs.Demand.{Seen, seen, seenAll, lastDesk, endOf, Twins}
 use Rattle.secrecy.proofs.Lists.{entry-in}
 use Rattle.secrecy.proofs.Quiet.{bare, over, hiddenOf, aPlay, number, wrong, hit, flag, lostIn, Two, KnownIn, InvIn, AgreeIn, Quiet}
 
@@ -87,7 +87,7 @@ on-board B j = go (ltb j (length B)) refl
     go false e = inr (ap face (List·getD-eq-default B (pos 0) {n = j} (ltb-false j (length B) e)))
 
 -- nothing is open at a fresh start
-fresh-inv : (s : Settings) (B : List ℤ) → length B ≡ cellsIn s → InvIn B (freshStart s)
+fresh-inv : (s : Settings) (B : List ℤ) → length B ≡ cellsIn s → InvIn B (freshDesk s)
 fresh-inv s B e = record {
   long = length-replicate (cellsIn s) 10 ∙ sym e;
   safe = λ j l. go j l (on-board B j);
@@ -110,9 +110,9 @@ off-board A B j e f = go (on-board A j) (on-board B j)
     go (inr z) (inr w) = z ∙ sym w
 
 -- twins cannot be told apart by quiet moves
-pub row-secrecy : (ms : List Move) (s : Settings) (A B : List ℤ) → Twins s (endOf s (rowOf A ms (freshStart s))) A B
-    → seenAll (rowOf A ms (freshStart s)) ≡ seenAll (rowOf B ms (freshStart s))
-row-secrecy ms s A B tw = row-same A B two ms (freshStart s) (freshStart s) refl ia (fresh-inv s B (b .0)) agree
+pub row-secrecy : (ms : List Move) (s : Settings) (A B : List ℤ) → Twins s (endOf s (rowOf A ms (freshDesk s))) A B
+    → seenAll (rowOf A ms (freshDesk s)) ≡ seenAll (rowOf B ms (freshDesk s))
+row-secrecy ms s A B tw = row-same A B two ms (freshDesk s) (freshDesk s) refl ia (fresh-inv s B (b .0)) agree
   where
     a : (length A ≡ cellsIn s) × Valued A
     a = checked (s .rows) (s .columns) A (tw .first)
@@ -128,14 +128,14 @@ row-secrecy ms s A B tw = row-same A B two ms (freshStart s) (freshStart s) refl
       mines = ap (count (mineAt A)) (a .0) ∙ (tw .mines ∙ ap (count (mineAt B)) (sym (b .0)));
     }
 
-    ia : InvIn A (freshStart s)
+    ia : InvIn A (freshDesk s)
     ia = fresh-inv s A (a .0)
 
     end : Desk
-    end = lastDesk (freshStart s) (rowOf A ms (freshStart s))
+    end = lastDesk (freshDesk s) (rowOf A ms (freshDesk s))
 
     order : InvIn A end
-    order = row-keeps A (a .1) ms (freshStart s) ia
+    order = row-keeps A (a .1) ms (freshDesk s) ia
 
     -- a hit mine is on the board
     hit-cell : (k : ℕ) → getD (end .shown) k 0 ≡ 15 → k < cellsIn s

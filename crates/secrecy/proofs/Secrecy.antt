@@ -11,8 +11,8 @@ use lib.Dec.{leb}
 use Rattle.rules.specs.Words.{pick}
 use Rattle.rules.specs.Clicks.{Desk, Play}
 use Rattle.rules.specs.Step.{stepOn}
-use Rattle.rules.specs.Calls.{plays}
-use Rattle.secrecy.specs.Demand.{Seen, seen, seenAll, freshStart, playsOn, stopped, endOf, Twins, Demand, StoppedDemand}
+use Rattle.rules.specs.Calls.{freshDesk, plays}
+use Rattle.secrecy.specs.Demand.{Seen, seen, seenAll, playsOn, stopped, endOf, Twins, Demand, StoppedDemand}
 use Rattle.secrecy.proofs.Events.{step-quiet}
 use Rattle.secrecy.proofs.Rows.{Move, rowOf, row-secrecy}
 
@@ -38,9 +38,9 @@ on-row B (code ∷ r ∷ c ∷ es) d = let o = stepOn B code r c d in ap (λ (l 
 -- THE theorem
 pub secrecy : Demand
 secrecy s events A B tw =
-    ap seenAll (on-row A events (freshStart s))
-    ∙ (row-secrecy (moves events) s A B (subst (λ (os : List Play). Twins s (endOf s os) A B) (on-row A events (freshStart s)) tw)
-    ∙ sym (ap seenAll (on-row B events (freshStart s))))
+    ap seenAll (on-row A events (freshDesk s))
+    ∙ (row-secrecy (moves events) s A B (subst (λ (os : List Play). Twins s (endOf s os) A B) (on-row A events (freshDesk s)) tw)
+    ∙ sym (ap seenAll (on-row B events (freshDesk s))))
 
 -- ---- a game that is stopped --------------------------------------------------------------------------------------------------------------
 
@@ -94,6 +94,6 @@ stops-alike A B (code ∷ r ∷ c ∷ es) d e h =
 -- the events up to the first game's refusal, played in games that go on
 pub stopped-secrecy : StoppedDemand
 stopped-secrecy s events A B tw =
-    stops-alike A B events (freshStart s) (freshStart s)
+    stops-alike A B events (freshDesk s) (freshDesk s)
     (secrecy s (take (3 * length (stopped s events A)) events) A B
-    (subst (λ (os : List Play). Twins s (endOf s os) A B) (plays-on A events (freshStart s)) tw))
+    (subst (λ (os : List Play). Twins s (endOf s os) A B) (plays-on A events (freshDesk s)) tw))

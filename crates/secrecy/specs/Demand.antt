@@ -3,19 +3,17 @@
 use mathlib.Core.Path.{_≡_}
 use mathlib.Core.List.{List, [], _∷_}
 use Prim.Native.Nat.{ℕ, _<_, _≤_}
-use lib.ListN.{getD, replicate}
+use lib.ListN.{getD}
 use lib.IntN.{ℤ}
 use Rattle.rules.specs.declared.Settings.{Settings}
 use Rattle.rules.specs.declared.Counts.{Counts}
 use Rattle.rules.specs.declared.GameState.{GameState}
 use Rattle.rules.specs.declared.MouseState.{MouseState}
 use Rattle.rules.specs.Words.{count}
-use Rattle.rules.specs.States.{freshOf}
 use Rattle.rules.specs.Board.{faceAt, mineAt, boardCheck}
-use Rattle.rules.specs.Lent.{bitBytes}
-use Rattle.rules.specs.Clicks.{Desk, Play, desk}
+use Rattle.rules.specs.Clicks.{Desk, Play}
 use Rattle.rules.specs.Step.{stepOn}
-use Rattle.rules.specs.Calls.{plays, cellsIn}
+use Rattle.rules.specs.Calls.{cellsIn, freshDesk, plays}
 
 -- ---- what is seen ----------------------------------------------------------------------------------------------------------------------
 
@@ -43,10 +41,6 @@ seenAll (o ∷ os) = seen o ∷ seenAll os
 
 -- ---- a game ----------------------------------------------------------------------------------------------------------------------------
 
--- a fresh start: every shown cell 10, every bit and count 0
-abbrev pub freshStart : Settings → Desk
-freshStart s = desk (freshOf s) (replicate (cellsIn s) 10) (replicate (bitBytes (cellsIn s)) 0)
-
 -- the plays of a row of events, three bytes each: a refused event gives its number and leaves the desk, and the next one is played on it
 unfoldable pub playsOn : List ℤ → List ℕ → Desk → List Play
 playsOn B [] d = []
@@ -58,10 +52,10 @@ playsOn B (code ∷ r ∷ c ∷ es) d =
 
 -- a game goes on after a refused event; one that is stopped ends with it
 abbrev pub game : Settings → List ℕ → List ℤ → List Play
-game s events B = playsOn B events (freshStart s)
+game s events B = playsOn B events (freshDesk s)
 
 abbrev pub stopped : Settings → List ℕ → List ℤ → List Play
-stopped s events B = plays B events (freshStart s)
+stopped s events B = plays B events (freshDesk s)
 
 -- the last desk of a row of plays, or the one that it began with
 unfoldable pub lastDesk : Desk → List Play → Desk
@@ -70,7 +64,7 @@ lastDesk d (o ∷ os) = lastDesk (o .desk) os
 
 -- what is shown at the end of a game
 abbrev pub endOf : Settings → List Play → List ℕ
-endOf s os = lastDesk (freshStart s) os .shown
+endOf s os = lastDesk (freshDesk s) os .shown
 
 -- ---- twins: `end` is what is shown at the end of the first game ------------------------------------------------------------------------
 

@@ -7,7 +7,8 @@ use Prim.Native.Nat.{ℕ}
 use lib.IntN.{ℤ, pos, negsuc}
 use Rattle.rules.specs.declared.Settings.{Settings}
 use Rattle.rules.specs.Clicks.{Desk, Play}
-use Rattle.secrecy.specs.Demand.{freshStart, game, lastDesk}
+use Rattle.rules.specs.Calls.{freshDesk}
+use Rattle.secrecy.specs.Demand.{game, lastDesk}
 
 -- one row in mode 0, question marks off
 abbrev pub line : ℕ → Settings
@@ -66,7 +67,7 @@ heard (o ∷ os) = o .answer ∷ heard os
 
 -- the desk that a game ends with
 abbrev pub end : Settings → List ℕ → List ℤ → Desk
-end s events B = lastDesk (freshStart s) (game s events B)
+end s events B = lastDesk (freshDesk s) (game s events B)
 
 -- what the demand does not promise, and why it is shown only after the game: rce, both solved counts and the bits can differ
 pub record Differ (d e : Desk) : Type 0 where

@@ -41,12 +41,9 @@ returns-3 : tie.Need-returns-3
 unfolding eventsFrom
 returns-3 c = simp (le-leb _ _ (c .before .before .before .before .if1 .left), ← (c .before .before .before .word-at .ensures .0), le-leb _ _ (c .before .before .if2 .left), lt-leb _ _ (c .before .if3 .taken), c .refused3 .ensures)
 
-ended-requires : tie.Need-ended-requires
-ended-requires c κs = search needs
-
 returns-4 : tie.Need-returns-4
 unfolding eventsFrom
-returns-4 c = simp (le-leb _ _ (c .before .before .before .before .if1 .left), ← (c .before .before .before .word-at .ensures .0), le-leb _ _ (c .before .before .if2 .left), le-leb _ _ (c .before .if3 .left), c .ended .ensures)
+returns-4 c = simp (le-leb _ _ (c .before .before .before .if1 .left), ← (c .before .before .word-at .ensures .0), le-leb _ _ (c .before .if2 .left), le-leb _ _ (c .if3 .left))
 
 pub read-events-spec : {M : Type 1} → statement M
 read-events-spec =
@@ -63,5 +60,4 @@ read-events-spec =
     add-end
     refused-requires-3
     returns-3
-    ended-requires
     returns-4)

@@ -10,14 +10,8 @@ answer-requires c κs = search needs
 returns : tie.Need-returns
 returns c = set-refused _ _ _ _ _ _ (c .answer .ensures) (c .before .if1 .taken)
 
-fill-requires : tie.Need-fill-requires
-fill-requires c κs = search needs
-
-fill-requires-2 : tie.Need-fill-requires-2
-fill-requires-2 c κs = search needs
-
-fresh-requires : tie.Need-fresh-requires
-fresh-requires c κs = search needs
+fresh-desk-requires : tie.Need-fresh-desk-requires
+fresh-desk-requires c κs = c .before .before .before .before .before .pre (c .before .before .if1 .left)
 
 answer-requires-2 : tie.Need-answer-requires-2
 answer-requires-2 c κs = search needs
@@ -29,7 +23,7 @@ same-length-2 : tie.Need-same-length-2
 same-length-2 c = search needs
 
 returns-2 : tie.Need-returns-2
-returns-2 c = set-fresh _ _ _ _ _ _ _ _ _ (c .answer2 .ensures) (c .before .fresh .ensures) (c .before .before .before .before .before .before .before .before .before .before .if1 .left) (c .before .before .before .before .before .before .before .before .fill .ensures) (c .before .before .before .before .fill2 .ensures)
+returns-2 c = set-fresh _ _ _ _ _ _ _ _ _ (c .answer2 .ensures) (c .before .before .before .before .before .before .before .before .if1 .left) (c .before .before .before .before .before .fresh-desk .ensures)
 
 pub set-up-spec : {M : Type 1} → statement M
 set-up-spec =
@@ -37,9 +31,7 @@ set-up-spec =
     (tie.spec
     answer-requires
     returns
-    fill-requires
-    fill-requires-2
-    fresh-requires
+    fresh-desk-requires
     answer-requires-2
     same-length
     same-length-2

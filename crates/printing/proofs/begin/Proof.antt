@@ -1,4 +1,4 @@
--- `printing::begin` meets its contract: the book's mine list is refused on no board of its size, and every list is filled.
+-- `printing::begin` meets its contract: the book's mine list is refused on no board of its size, and its desk is made fresh.
 use borrow.Author.Needs.{needs}
 use Rattle.printing.proofs.Beginning.{begun}
 use Rattle.printing.proofs.begin.Statement.{statement}
@@ -9,12 +9,6 @@ mines-requires c κs = search needs
 
 number-mines-requires : tie.Need-number-mines-requires
 number-mines-requires c κs = search needs
-
-fill-requires : tie.Need-fill-requires
-fill-requires c κs = search needs
-
-fill-requires-2 : tie.Need-fill-requires-2
-fill-requires-2 c κs = search needs
 
 cell-count-requires : tie.Need-cell-count-requires
 cell-count-requires c κs = search needs
@@ -27,6 +21,9 @@ add-clear c = search needs
 
 clear-requires : tie.Need-clear-requires
 clear-requires c κs = search needs
+
+fresh-desk-requires : tie.Need-fresh-desk-requires
+fresh-desk-requires c κs = search needs
 
 same-length : tie.Need-same-length
 same-length c = search needs
@@ -41,7 +38,7 @@ same-length-4 : tie.Need-same-length-4
 same-length-4 c = search needs
 
 returns : tie.Need-returns
-returns c = begun _ (c .before .before .before .before .before .before .before .before .before .before .before .before .before .before .before .before .before .before .before .before .before .args .b) (c .before .before .before .before .before .before .before .before .before .before .before .before .before .before .before .before .before .before .before .before .before .pre .0 .0) (c .before .before .before .before .before .before .before .before .before .before .before .before .before .before .before .before .before .before .before .before .before .pre .0 .1) (c .before .before .before .before .before .before .before .before .before .before .before .before .before .before .before .before .before .before .before .before .before .pre .1) (c .before .before .before .before .before .before .before .before .before .before .before .before .before .before .before .before .mines .ensures) (c .before .before .before .before .before .before .before .before .before .before .before .before .before .before .number-mines .ensures) (c .before .before .before .before .before .before .before .before .before .before .before .fill .ensures) (c .before .before .before .before .before .before .before .fill2 .ensures) (c .before .before .before .before .cell-count .ensures .0) (c .before .before .clear .ensures)
+returns c = begun _ (c .before .before .before .before .before .before .before .before .before .before .before .before .before .before .before .before .before .before .before .before .before .args .b) (c .before .before .before .before .before .before .before .before .before .before .before .before .before .before .before .before .before .before .before .before .before .pre .0 .0) (c .before .before .before .before .before .before .before .before .before .before .before .before .before .before .before .before .before .before .before .before .before .pre .0 .1) (c .before .before .before .before .before .before .before .before .before .before .before .before .before .before .before .before .before .before .before .before .before .pre .1) (c .before .before .before .before .before .before .before .before .before .before .before .before .before .before .before .mines .ensures) (c .before .before .before .before .before .before .before .before .before .before .before .before .before .number-mines .ensures) (c .before .before .before .before .before .before .before .before .before .before .before .cell-count .ensures .0) (c .before .before .before .before .before .before .before .before .before .clear .ensures) (c .before .before .before .before .fresh-desk .ensures)
 
 pub begin-spec : {M : Type 1} → statement M
 begin-spec =
@@ -49,12 +46,11 @@ begin-spec =
     (tie.spec
     mines-requires
     number-mines-requires
-    fill-requires
-    fill-requires-2
     cell-count-requires
     mul-clear
     add-clear
     clear-requires
+    fresh-desk-requires
     same-length
     same-length-2
     same-length-3

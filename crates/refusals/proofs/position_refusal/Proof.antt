@@ -1,5 +1,4 @@
 -- `refusals::position_refusal` meets its contract: what 20 to 25 have shown lets the position be checked.
-use borrow.Author.Tests.{not-true, not-false}
 use Rattle.rules.specs.Clicks.{desk}
 use Rattle.refusals.proofs.Refusals.{fits-mines, position-refused, position-last, checkable}
 use Rattle.refusals.proofs.position_refusal.Statement.{statement}
@@ -11,15 +10,12 @@ settings-refusal-requires c κs = λ e. fits-mines _ _ _ _ ((c .before .before .
 returns : tie.Need-returns
 returns c = position-refused _ _ _ _ (c .before .settings-refusal .ensures) (c .if1 .taken)
 
-is-lawful-requires : tie.Need-is-lawful-requires
-is-lawful-requires c κs = checkable _ _ (desk (c .before .before .before .before .before .args .p) (c .before .before .before .before .before .args .shown .now) (c .before .before .before .before .before .args .bits .now)) _ (c .before .settings-refusal .ensures) (c .if1 .left) (c .before .before .before .before .before .pre)
+lawful-refusal-requires : tie.Need-lawful-refusal-requires
+lawful-refusal-requires c κs = checkable _ _ (desk (c .before .before .before .before .before .args .p) (c .before .before .before .before .before .args .shown .now) (c .before .before .before .before .before .args .bits .now)) _ (c .before .settings-refusal .ensures) (c .if1 .left) (c .before .before .before .before .before .pre)
 
 returns-2 : tie.Need-returns-2
-returns-2 c = position-last _ _ _ _ (c .before .before .before .settings-refusal .ensures) _ (c .before .before .if1 .left) (c .before .is-lawful .ensures) (not-true _ (c .if2 .taken))
-
-returns-3 : tie.Need-returns-3
-returns-3 c = position-last _ _ _ _ (c .before .before .before .settings-refusal .ensures) _ (c .before .before .if1 .left) (c .before .is-lawful .ensures) (not-false _ (c .if2 .left))
+returns-2 c = position-last _ _ _ _ (c .before .before .settings-refusal .ensures) (c .before .if1 .left) (c .lawful-refusal .ensures)
 
 pub position-refusal-spec : {M : Type 1} → statement M
 position-refusal-spec =
-    tie.close (tie.spec settings-refusal-requires returns is-lawful-requires returns-2 returns-3)
+    tie.close (tie.spec settings-refusal-requires returns lawful-refusal-requires returns-2)

@@ -1,7 +1,7 @@
--- `lawful::is_lawful` meets its contract.
+-- `lawful::lawful_refusal` meets its contract.
 use Rattle.lawful.proofs.Tests.{all-four}
-use Rattle.lawful.proofs.is_lawful.Statement.{statement}
-use Rattle.lawful.proofs.is_lawful.Tie as tie
+use Rattle.lawful.proofs.lawful_refusal.Statement.{statement}
+use Rattle.lawful.proofs.lawful_refusal.Tie as tie
 
 take-census-requires : tie.Need-take-census-requires
 take-census-requires c κs = c .before .before .pre .cells
@@ -19,10 +19,13 @@ states-lawful-requires : tie.Need-states-lawful-requires
 states-lawful-requires c κs = (c .before .before .before .before .before .before .pre .same, (c .before .before .before .before .before .before .pre .valued, c .before .before .before .take-census .ensures))
 
 returns : tie.Need-returns
-returns c = all-four _ _ _ _ _ _ (c .before .before .before .shown-lawful .ensures _) (c .before .before .bits-lawful .ensures _ _) (c .before .counts-lawful .ensures _ _ (c .before .before .before .before .take-census .ensures)) (c .states-lawful .ensures _)
+returns c = all-four _ _ (c .before .before .before .before .shown-lawful .ensures _) (c .before .before .before .bits-lawful .ensures _ _) (c .before .before .counts-lawful .ensures _ _ (c .before .before .before .before .before .take-census .ensures)) (c .before .states-lawful .ensures _) (c .if1 .taken)
 
-pub is-lawful-spec : {M : Type 1} → statement M
-is-lawful-spec =
+returns-2 : tie.Need-returns-2
+returns-2 c = all-four _ _ (c .before .before .before .before .shown-lawful .ensures _) (c .before .before .before .bits-lawful .ensures _ _) (c .before .before .counts-lawful .ensures _ _ (c .before .before .before .before .before .take-census .ensures)) (c .before .states-lawful .ensures _) (c .if1 .left)
+
+pub lawful-refusal-spec : {M : Type 1} → statement M
+lawful-refusal-spec =
     tie.close
     (tie.spec
     take-census-requires
@@ -30,4 +33,5 @@ is-lawful-spec =
     bits-lawful-requires
     counts-lawful-requires
     states-lawful-requires
-    returns)
+    returns
+    returns-2)
