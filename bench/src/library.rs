@@ -180,7 +180,7 @@ impl Rooms {
 
 /// The printout of a book, whose length is given.
 pub fn print_book(book: &[u8], rooms: &mut Rooms) -> usize {
-    // SAFETY: the slices are whole, and have the room that the contract asks for.
+    // SAFETY: the slices are whole.
     unsafe {
         bench_replay(
             book.as_ptr(),

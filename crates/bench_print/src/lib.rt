@@ -1,9 +1,5 @@
 // What the bench calls to play a book and print it: slices only.
-ghost use Prim.Native.Nat.{_<_};
-ghost use lib.ListN.{length};
-ghost use Rattle.rules.specs.Printout.{printoutOf};
-ghost use Rattle.writing.specs.Put.{PutWithin};
-ghost use Rattle.player.specs.Rooms.{Enough};
+ghost use Rattle.player.specs.Rooms.{PrintBookIs};
 
 // `player::print_book`: a book read, set up, played and printed.
 #[no_mangle]
@@ -15,9 +11,7 @@ pub extern "C" fn bench_replay(
     work: &mut [u16],
     out: &mut [u8],
 ) -> usize
-    requires { ⌜ length (now s) < 4294967296 ⌝ }
-    requires { ⌜ Enough (now mines) (now shown) (now bits) (now work) (now out) ⌝ }
-    ensures { λ r. ⌜ PutWithin 172184 (printoutOf (now (s .entry))) 0 (now (out .entry)) (now (out .exit)) r ⌝ }
+    ensures { λ r. ⌜ PrintBookIs (now (s .entry)) (now (mines .entry)) (now (shown .entry)) (now (bits .entry)) (now (work .entry)) (now (out .entry)) r (now (mines .exit)) (now (shown .exit)) (now (bits .exit)) (now (work .exit)) (now (out .exit)) ⌝ }
 {
     player::print_book(
         s,

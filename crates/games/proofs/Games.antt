@@ -8,7 +8,7 @@ use lib.IntN.{ℤ}
 use Rattle.rules.specs.declared.Book.{Book}
 use Rattle.rules.specs.declared.Position.{Position}
 use Rattle.rules.specs.declared.Settings.{Settings}
-use Rattle.rules.specs.Lent.{workRoom}
+use Rattle.rules.specs.Lent.{workRoom, workAfter}
 use Rattle.rules.specs.Clicks.{Desk, desk, done}
 use Rattle.rules.specs.Calls.{plays, lastPlay, cellsIn}
 use Rattle.rules.specs.Book.{bookOf, minesOf, eventsOf}
@@ -20,14 +20,14 @@ use Rattle.book.specs.Parts.{partOf}
 use Rattle.book.specs.Written.{Writable}
 use Rattle.book.proofs.Accepting.{events-part}
 use Rattle.book.proofs.Writing.{accepted-writable}
-use Rattle.game.specs.Core.{Blank}
+use Rattle.game.specs.Core.{Blank, flowOn}
 use Rattle.writing.specs.Put.{Put, PutWithin}
 use Rattle.writing.proofs.Putting.{put-then, put-as, put-length}
 use Rattle.text.specs.Rows.{RowsFit}
 use Rattle.text.proofs.Printed.{printout-played}
 use Rattle.games.specs.declared.Told.{Told}
-use Rattle.printing.specs.Boards.{Begun}
-use Rattle.games.specs.Events.{EventsFit, EventsPrinted}
+use Rattle.printing.specs.Boards.{Begun, Ended, bookEnd}
+use Rattle.games.specs.Events.{EventsFit, EventsPrinted, GamePrinted}
 use Rattle.cells.proofs.Filling.{cleared-zeros}
 use Rattle.printing.proofs.Beginning.{book-lawful}
 
@@ -111,10 +111,10 @@ module _ (s : List ℕ) (b : Book) (e : b ≡ bookOf s) (z : b .number ≡ 0) {p
           ∙ sym (printout-played s b z) ∙ ap (printoutBy s) e)
           (put-then (w .put) (put-then (y .put) h))
 
-      pub game-printed : {out₃ : List ℕ} {q : ℕ}
+      short : {out₃ : List ℕ} {q : ℕ}
           → PutWithin (131 + 4 * (r .position .settings .rows * r .position .settings .columns)) (endLines B (desk (r .position) shown′ [])) (r .at) out₂ out₃ q
           → PutWithin 172184 (printoutOf s) 0 out₀ out₃ q
-      game-printed h =
+      short h =
           let whole = whole-put (h .put) in
           let cells = follows .lawful .kept .sound .ground .mined .sized .cells in
           let a = whole .next in
@@ -125,3 +125,24 @@ module _ (s : List ℕ) (b : Book) (e : b ≡ bookOf s) (z : b .number ≡ 0) {p
           let k = y .short in
           let f = few in
           record { put = whole; short = omega arith }
+
+      end-is : desk (r .position) shown′ bits′ ≡ bookEnd s b
+      end-is =
+          y .outcome ∙ ap (λ (x : List ℤ). flowOn x events (desk p shown bits) .desk) (g .board)
+          ∙ ap₂ (λ (x : List ℕ) (d : Desk). flowOn (bookBoard s b) x d .desk) events-are (g .fresh)
+
+      work-cleared : {work″ : List ℕ} → work″ ≡ work′ → work″ ≡ workAfter (cellsIn (b .settings)) work₀
+      unfolding workAfter
+      work-cleared e = e ∙ y .same ∙ g .blank
+
+      pub game-printed : {out₃ work″ : List ℕ} {q : ℕ}
+          → Ended (131 + 4 * (r .position .settings .rows * r .position .settings .columns)) (endLines B (desk (r .position) shown′ [])) (r .at) out₂ out₃ q work′ work″
+          → GamePrinted s b work₀ out₀ q B shown′ bits′ work″ out₃
+      game-printed h =
+          record {
+            text = short (h .put);
+            board = g .board;
+            shown = ap (λ (d : Desk). d .shown) end-is;
+            bits = ap (λ (d : Desk). d .bits) end-is;
+            cleared = work-cleared (h .same);
+          }

@@ -5,12 +5,10 @@ ghost use Prim.Native.Nat.{_≤_};
 ghost use lib.ListN.{length};
 ghost use Rattle.rules.specs.Clicks.{desk};
 ghost use Rattle.rules.specs.Book.{bookOf};
-ghost use Rattle.rules.specs.Printout.{printoutOf};
 ghost use Rattle.keep.specs.Kept.{LawfulAt};
 ghost use Rattle.game.specs.Core.{Blank};
-ghost use Rattle.writing.specs.Put.{PutWithin};
 ghost use Rattle.printing.specs.Boards.{Fit};
-ghost use Rattle.games.specs.Events.{EventsFit, EventsPrinted};
+ghost use Rattle.games.specs.Events.{EventsFit, EventsPrinted, GamePrinted};
 use rules::Book;
 use rules::Played;
 use rules::Position;
@@ -78,7 +76,7 @@ pub fn print_game(
     requires { ⌜ (b ≡ bookOf (now s)) × (b .number ≡ 0) ⌝ }
     requires { ⌜ Fit (b .settings) (now mines) (now shown) (now bits) (now work) ⌝ }
     requires { ⌜ 172184 ≤ length (now out) ⌝ }
-    ensures { λ r. ⌜ PutWithin 172184 (printoutOf (now (s .entry))) 0 (now (out .entry)) (now (out .exit)) r ⌝ }
+    ensures { λ r. ⌜ GamePrinted (now (s .entry)) b (now (work .entry)) (now (out .entry)) r (now (mines .exit)) (now (shown .exit)) (now (bits .exit)) (now (work .exit)) (now (out .exit)) ⌝ }
 {
     let settings = b.settings;
     let p = printing::begin(s, b, &mut *mines, &mut *shown, &mut *bits, &mut *work);

@@ -109,9 +109,9 @@ module _ (s : List ℕ) (b : Book) (e : b ≡ bookOf s) where
         let c = size-limits (b .settings .rows) (b .settings .columns) w .cells in
         omega arith
 
-    pub book-fit : (mines : List ℤ) (shown bits work out : List ℕ) → Enough mines shown bits work out
+    pub book-fit : {bytes out : ℕ} (mines : List ℤ) (shown bits work : List ℕ) → Enough bytes (length mines) (length shown) (length bits) (length work) out
         → Fit (b .settings) (take cells mines) (take cells shown) (take ((cells + 7) / 8) bits) work
-    book-fit mines shown bits work out h =
+    book-fit mines shown bits work h =
         let c = book-cells in
         let m = h .mine in
         let n = h .cell in

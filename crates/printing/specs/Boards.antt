@@ -1,4 +1,4 @@
--- The boards that a book is played on: their lengths, and how a game begins on them.
+-- The boards that a book is played on: their lengths, and how a game begins and ends on them.
 use mathlib.Core.Path.{_≡_}
 use mathlib.Core.List.{List, _++_}
 use Prim.Native.Nat.{ℕ, _≤_}
@@ -8,9 +8,10 @@ use Rattle.rules.specs.declared.Book.{Book}
 use Rattle.rules.specs.declared.Settings.{Settings}
 use Rattle.rules.specs.declared.Position.{Position}
 use Rattle.rules.specs.Lent.{bitBytes, workRoom}
-use Rattle.rules.specs.Clicks.{desk}
-use Rattle.rules.specs.Calls.{cellsIn}
-use Rattle.rules.specs.Printout.{bookBoard, bookDesk}
+use Rattle.rules.specs.Clicks.{Desk, desk, done}
+use Rattle.rules.specs.Calls.{lastPlay, cellsIn}
+use Rattle.rules.specs.Printout.{bookBoard, bookDesk, bookPlays}
+use Rattle.writing.specs.Put.{PutWithin}
 
 -- the boards have the lengths of the settings, and the work its room
 pub record Fit (s : Settings) (mines : List ℤ) (shown bits work : List ℕ) : Type 0 where
@@ -24,3 +25,12 @@ pub record Begun (s : List ℕ) (b : Book) (work : List ℕ) (p : Position) (min
   pub board : mines ≡ bookBoard s b
   pub fresh : desk p shown bits ≡ bookDesk b
   pub blank : work′ ≡ replicate (workRoom (cellsIn (b .settings))) 0 ++ drop (workRoom (cellsIn (b .settings))) work
+
+-- the desk after a book's last event
+abbrev pub bookEnd : List ℕ → Book → Desk
+bookEnd s b = lastPlay (done 0 (bookDesk b)) (bookPlays s b) .desk
+
+-- the text was written, and the work came back as it was lent
+pub record Ended (most : ℕ) (text : List ℕ) (at : ℕ) (out out′ : List ℕ) (r : ℕ) (work work′ : List ℕ) : Type 0 where
+  pub put : PutWithin most text at out out′ r
+  pub same : work′ ≡ work

@@ -13,7 +13,7 @@ ghost use Rattle.cells.specs.Ground.{Mined};
 ghost use Rattle.game.specs.Core.{Blank};
 ghost use Rattle.writing.specs.Put.{PutWithin};
 ghost use Rattle.text.specs.Rows.{RowsFit};
-ghost use Rattle.printing.specs.Boards.{Fit, Begun};
+ghost use Rattle.printing.specs.Boards.{Fit, Begun, Ended};
 use rules::Book;
 use rules::Played;
 use rules::Position;
@@ -78,7 +78,7 @@ pub fn finish(
     requires { ⌜ Mined (now mines) (p .settings .rows) (p .settings .columns) ⌝ }
     requires { ⌜ Blank (p .settings) (now work) ⌝ }
     requires { ⌜ RowsFit (p .settings .rows) (p .settings .columns) (now shown) (at + 131) (now out) ⌝ }
-    ensures { λ r. ⌜ PutWithin (131 + 4 * (p .settings .rows * p .settings .columns)) (endLines (now (mines .entry)) (desk p (now (shown .entry)) [])) at (now (out .entry)) (now (out .exit)) r ⌝ }
+    ensures { λ r. ⌜ Ended (131 + 4 * (p .settings .rows * p .settings .columns)) (endLines (now (mines .entry)) (desk p (now (shown .entry)) [])) at (now (out .entry)) (now (out .exit)) r (now (work .entry)) (now (work .exit)) ⌝ }
 {
     let rows = cells::wide(p.settings.rows);
     let columns = cells::wide(p.settings.columns);

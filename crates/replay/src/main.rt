@@ -15,5 +15,6 @@ fn book_buffer() -> [u8; 28680]
 fn main() {
     let mut bytes = book_buffer();
     let n = io::read_full(STDIN_FILENO, &mut bytes);
-    player::write_printout(STDOUT_FILENO, &bytes[..n]);
+    let mut out = player::text_room();
+    player::write_printout(STDOUT_FILENO, &bytes[..n], &mut out);
 }

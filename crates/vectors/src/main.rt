@@ -1,7 +1,6 @@
 // Plays packed books: standard input has up to 65,536, each after its length in two bytes, low byte first; their printouts are written one after the other.
 // The files stdin and stdout are the Rust's stored answers, made by `oracle/vectors`.
 ghost use Prim.Native.Nat.{_<_, _≤_};
-ghost use lib.ListN.{length};
 use libc::STDIN_FILENO;
 use libc::STDOUT_FILENO;
 
@@ -24,13 +23,12 @@ fn next_length() -> usize
 }
 
 // The next book, as long as its room; false where it is cut off.
-fn play_in(room: &mut [u8]) -> bool
-    requires { ⌜ length (now room) < 65536 ⌝ }
-{
+fn play_in(room: &mut [u8]) -> bool {
     if io::read_full(STDIN_FILENO, &mut *room) != room.len() {
         return false;
     }
-    player::write_printout(STDOUT_FILENO, &*room);
+    let mut out = player::text_room();
+    player::write_printout(STDOUT_FILENO, &*room, &mut out);
     true
 }
 

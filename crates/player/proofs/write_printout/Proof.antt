@@ -1,8 +1,8 @@
--- `player::write_printout` meets its contract: every room has its length, and the text is no longer than its room.
+-- `player::write_printout` meets its contract: its own rooms are enough for every book, so what is not printed is for want of text room; and what it hands over is the printout.
 use mathlib.Core.Path.{sym}
-use native.Mathlib.Omega.{arith}
 use lib.Seq.{length-take-le}
 use borrow.Author.Needs.{needs}
+use Rattle.player.proofs.Lending.{written-as, handed-fits, handed-whole}
 use Rattle.player.proofs.write_printout.Statement.{statement}
 use Rattle.player.proofs.write_printout.Tie as tie
 
@@ -18,9 +18,6 @@ flag-bits-requires c κs = search needs
 work-room-requires : tie.Need-work-room-requires
 work-room-requires c κs = search needs
 
-text-room-requires : tie.Need-text-room-requires
-text-room-requires c κs = search needs
-
 slice-aggregate-print-book : tie.Need-slice-aggregate-print-book
 slice-aggregate-print-book c = search needs
 
@@ -33,23 +30,29 @@ slice-aggregate-print-book-3 c = search needs
 slice-aggregate-print-book-4 : tie.Need-slice-aggregate-print-book-4
 slice-aggregate-print-book-4 c = search needs
 
-slice-aggregate-print-book-5 : tie.Need-slice-aggregate-print-book-5
-slice-aggregate-print-book-5 c = search needs
-
 print-book-requires : tie.Need-print-book-requires
 print-book-requires c κs = search needs
 
-array-share-prefix-out : tie.Need-array-share-prefix-out
-array-share-prefix-out c = search needs
-
-slice-aggregate-write-all : tie.Need-slice-aggregate-write-all
-slice-aggregate-write-all c = let h = c .before .before .before .before .before .before .print-book .ensures .short in let n = c .before .before .before .before .before .before .print-book .ensures .put .next in let l = c .before .before .before .before .before .before .print-book .kept .1 .1 .1 .1 .1 .0 in let t = c .before .before .before .before .before .before .before .before .before .before .before .before .text-room .ensures in sym (length-take-le _ _ (omega arith))
-
-write-all-requires : tie.Need-write-all-requires
-write-all-requires c κs = search needs
+same-length : tie.Need-same-length
+same-length c = search needs
 
 returns : tie.Need-returns
-returns c = search needs
+returns c = written-as _ _ _ _ _ _ (c .before .before .before .before .before .before .before .before .before .before .before .before .before .before .before .before .mine-board .ensures) (c .before .before .before .before .before .before .before .before .before .before .before .before .before .before .before .shown-board .ensures) (c .before .before .before .before .before .before .before .before .before .before .before .before .before .before .flag-bits .ensures) (c .before .before .before .before .before .before .before .before .before .before .before .before .before .work-room .ensures) (c .before .before .before .before .before .before .before .print-book .ensures)
+
+slice-reshare-prefix-hand : tie.Need-slice-reshare-prefix-hand
+slice-reshare-prefix-hand c = handed-fits _ _ (written-as _ _ _ _ _ _ (c .before .before .before .before .before .before .before .before .before .before .before .before .before .before .before .before .mine-board .ensures) (c .before .before .before .before .before .before .before .before .before .before .before .before .before .before .before .shown-board .ensures) (c .before .before .before .before .before .before .before .before .before .before .before .before .before .before .flag-bits .ensures) (c .before .before .before .before .before .before .before .before .before .before .before .before .before .work-room .ensures) (c .before .before .before .before .before .before .before .print-book .ensures)) (c .if1 .left) (c .before .before .before .before .before .before .before .print-book .kept .1 .1 .1 .1 .1 .0)
+
+slice-aggregate-hand : tie.Need-slice-aggregate-hand
+slice-aggregate-hand c = sym (length-take-le _ _ (handed-fits _ _ (written-as _ _ _ _ _ _ (c .before .before .before .before .before .before .before .before .before .before .before .before .before .before .before .before .before .mine-board .ensures) (c .before .before .before .before .before .before .before .before .before .before .before .before .before .before .before .before .shown-board .ensures) (c .before .before .before .before .before .before .before .before .before .before .before .before .before .before .before .flag-bits .ensures) (c .before .before .before .before .before .before .before .before .before .before .before .before .before .before .work-room .ensures) (c .before .before .before .before .before .before .before .before .print-book .ensures)) (c .before .if1 .left) (c .before .before .before .before .before .before .before .before .print-book .kept .1 .1 .1 .1 .1 .0)))
+
+hand-requires : tie.Need-hand-requires
+hand-requires c κs = handed-whole _ _ (written-as _ _ _ _ _ _ (c .before .before .before .before .before .before .before .before .before .before .before .before .before .before .before .before .before .mine-board .ensures) (c .before .before .before .before .before .before .before .before .before .before .before .before .before .before .before .before .shown-board .ensures) (c .before .before .before .before .before .before .before .before .before .before .before .before .before .before .before .flag-bits .ensures) (c .before .before .before .before .before .before .before .before .before .before .before .before .before .before .work-room .ensures) (c .before .before .before .before .before .before .before .before .print-book .ensures)) (c .before .if1 .left)
+
+same-length-2 : tie.Need-same-length-2
+same-length-2 c = search needs
+
+returns-2 : tie.Need-returns-2
+returns-2 c = written-as _ _ _ _ _ _ (c .before .before .before .before .before .before .before .before .before .before .before .before .before .before .before .before .before .before .mine-board .ensures) (c .before .before .before .before .before .before .before .before .before .before .before .before .before .before .before .before .before .shown-board .ensures) (c .before .before .before .before .before .before .before .before .before .before .before .before .before .before .before .before .flag-bits .ensures) (c .before .before .before .before .before .before .before .before .before .before .before .before .before .before .before .work-room .ensures) (c .before .before .before .before .before .before .before .before .before .print-book .ensures)
 
 pub write-printout-spec : {M : Type 1} → statement M
 write-printout-spec =
@@ -59,14 +62,15 @@ write-printout-spec =
     shown-board-requires
     flag-bits-requires
     work-room-requires
-    text-room-requires
     slice-aggregate-print-book
     slice-aggregate-print-book-2
     slice-aggregate-print-book-3
     slice-aggregate-print-book-4
-    slice-aggregate-print-book-5
     print-book-requires
-    array-share-prefix-out
-    slice-aggregate-write-all
-    write-all-requires
-    returns)
+    same-length
+    returns
+    slice-reshare-prefix-hand
+    slice-aggregate-hand
+    hand-requires
+    same-length-2
+    returns-2)

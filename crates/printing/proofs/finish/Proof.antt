@@ -30,7 +30,7 @@ same-length-2 : tie.Need-same-length-2
 same-length-2 c = search needs
 
 returns : tie.Need-returns
-returns c = ending-put _ (c .before .before .before .before .before .before .before .before .before .before .before .before .before .before .args .p) (c .before .before .before .before .before .before .before .before .before .before .wide .ensures .0) (c .before .before .before .before .before .before .before .before .before .wide2 .ensures .0) (c .before .before .before .before .before .before .before .before .before .before .before .before .before .before .args .shown .now) (c .before .before .before .before .before .before .before .total-3bv .ensures) (c .before .before .before .before .left-of .ensures) (c .before .before .put-end .ensures)
+returns c = record { put = ending-put _ (c .before .before .before .before .before .before .before .before .before .before .before .before .before .before .args .p) (c .before .before .before .before .before .before .before .before .before .before .wide .ensures .0) (c .before .before .before .before .before .before .before .before .before .wide2 .ensures .0) (c .before .before .before .before .before .before .before .before .before .before .before .before .before .before .args .shown .now) (c .before .before .before .before .before .before .before .total-3bv .ensures) (c .before .before .before .before .left-of .ensures) (c .before .before .put-end .ensures); same = c .before .before .before .before .before .before .before .total-3bv .ensures .same }
 
 pub finish-spec : {M : Type 1} → statement M
 finish-spec =

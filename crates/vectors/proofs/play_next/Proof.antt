@@ -1,6 +1,5 @@
 -- `vectors::play_next` meets its contract: the prefix has the length asked for.
-use mathlib.Core.Path.{sym, subst}
-use Prim.Native.Nat.{_<_}
+use mathlib.Core.Path.{sym}
 use native.Mathlib.Omega.{arith}
 use lib.Seq.{length-take-le}
 use borrow.Author.Needs.{needs}
@@ -17,7 +16,7 @@ slice-aggregate-play-in : tie.Need-slice-aggregate-play-in
 slice-aggregate-play-in c = let t = c .before .large-buffer .ensures in let h = c .before .before .pre in sym (length-take-le _ _ (omega arith))
 
 play-in-requires : tie.Need-play-in-requires
-play-in-requires c κs = let t = c .before .large-buffer .ensures in let h = c .before .before .pre in subst (λ k. k < 65536) (sym (length-take-le _ _ (omega arith))) h
+play-in-requires c κs = search needs
 
 returns : tie.Need-returns
 returns c = search needs
