@@ -26,7 +26,7 @@ use Rattle.rules.specs.Step.{refusalAt, playAt, stepAt, stepBy, stepOn, pointer
 use Rattle.rules.specs.Calls.{Outcome, outcome, SetUp, Totalled, Asked, Numbered, cellsIn, answers, setUp, refused, accepted, played, setupBy, setupRefusal, setupOf, resetOf, totalRefusal, totalOf, numberingOf, positionCheck, lentRefusal, flowRefusal, stepOf, flowOf, gameStateOf, bbbvSolvedOf, leftToSolveOf}
 use Rattle.cells.proofs.Words.{one}
 use Rattle.game.proofs.Answers.{play-answers}
-use Rattle.board.specs.Promises.{numbers, totals, asks, CheckBoardIs, NumberMinesIs, Total3bvIs, SetupIs, ResetIs, CheckPositionIs, StepGameStateIs, BbbvSolvedIs, LeftToSolveIs, StepIs, StepFlowIs}
+use Rattle.rules.specs.Promises.{numbers, totals, asks, CheckBoardIs, NumberMinesIs, Total3bvIs, SetupIs, ResetIs, CheckPositionIs, StepGameStateIs, BbbvSolvedIs, LeftToSolveIs, StepIs, StepFlowIs}
 
 -- ---- one outcome -----------------------------------------------------------------------------------------------------------------------
 

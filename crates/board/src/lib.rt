@@ -1,5 +1,5 @@
 // THE PUBLIC FACE: what `calls` offers, the step of `stepping`, and here a row of events. No public function has a `requires`: for every
-// input its contract, one equation with a definition of rules' Calls (specs/Promises.antt), determines the answer, the position, the value
+// input its contract, one equation of rules' Promises, determines the answer, the position, the value
 // and every lent list.
 ghost use mathlib.Core.Path.{_≡_};
 ghost use mathlib.Core.List.{List};
@@ -8,7 +8,7 @@ ghost use lib.Dec.{leb};
 ghost use Rattle.rules.specs.Words.{pick};
 ghost use Rattle.rules.specs.Clicks.{desk};
 ghost use Rattle.game.specs.Core.{firstRefusal};
-ghost use Rattle.board.specs.Promises.{StepFlowIs};
+ghost use Rattle.rules.specs.Promises.{StepFlowIs};
 pub use calls::check_board;
 pub use calls::check_position;
 pub use calls::get_bbbv_solved;

@@ -14,9 +14,8 @@ use Rattle.rules.specs.Words.{pick, every}
 use Rattle.rules.specs.Grid.{sizeOk}
 use Rattle.rules.specs.Board.{mineOk}
 use Rattle.rules.specs.Calls.{modeOk}
-use Rattle.rules.specs.Book.{refusedBook, orElse, reaches, byteAt, wordAt, settingsAt, maxEvents, minesFrom, minesSection, eventsFrom, settingsSection, sectionsOf, eventsEnd, bookEnds, bookOf, minesOf, eventsOf}
+use Rattle.rules.specs.Book.{refusedBook, orElse, reaches, byteAt, wordAt, settingsAt, maxEvents, minesFrom, minesSection, eventsFrom, settingsSection, sectionsOf, eventsEnd, bookEnds, bookOf, minesOf, eventsOf, partOf}
 use Rattle.book.specs.Laid.{SettingsLaid, LaidFrom, Laid, readFrom, laidBook, eventCountAt, endAt}
-use Rattle.book.specs.Parts.{partOf}
 use Rattle.book.specs.Written.{longestFrom, longest}
 use Rattle.cells.proofs.Words.{pick-both, every-at, every-turn}
 use Rattle.cells.proofs.Grid.{size-limits}

@@ -8,8 +8,7 @@ use lib.IntN.{ℤ}
 use Rattle.rules.specs.declared.Settings.{Settings}
 use Rattle.rules.specs.declared.Book.{Book}
 use Rattle.rules.specs.Board.{numberingRefusal}
-use Rattle.rules.specs.Book.{bookOf, minesOf, eventsOf}
-use Rattle.book.specs.Parts.{partOf}
+use Rattle.rules.specs.Book.{bookOf, minesOf, eventsOf, partOf}
 use Rattle.book.specs.Laid.{Laid}
 use Rattle.book.specs.Written.{written, Writable, Bytes, IsWritten}
 use Rattle.book.proofs.Accepting.{laid-read}

@@ -14,8 +14,8 @@ use Rattle.rules.specs.declared.Book.{Book}
 use Rattle.rules.specs.Grid.{sizeOk, cellOf}
 use Rattle.rules.specs.Board.{mineOk, mineCell, rises}
 use Rattle.rules.specs.Calls.{modeOk}
-use Rattle.rules.specs.Book.{refusedBook, byteAt, wordAt, minesFrom, minesSection, eventsFrom, settingsSection, bookEnds}
-use Rattle.book.specs.Parts.{mineFits, partOf}
+use Rattle.rules.specs.Book.{refusedBook, byteAt, wordAt, minesFrom, minesSection, eventsFrom, settingsSection, bookEnds, partOf}
+use Rattle.book.specs.Parts.{mineFits}
 
 -- ---- parts -----------------------------------------------------------------------------------------------------------------------------
 

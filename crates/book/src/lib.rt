@@ -4,8 +4,8 @@ ghost use mathlib.Core.Path.{_≡_};
 ghost use Prim.Native.Nat.{_<_, _≤_, _+_, _*_};
 ghost use lib.ListN.{length};
 ghost use Rattle.rules.specs.Grid.{cellOf};
-ghost use Rattle.rules.specs.Book.{wordAt, refusedBook, eventsFrom, minesSection, sectionsOf, bookEnds, bookOf};
-ghost use Rattle.book.specs.Parts.{mineFits, partOf};
+ghost use Rattle.rules.specs.Book.{wordAt, refusedBook, eventsFrom, minesSection, sectionsOf, bookEnds, bookOf, partOf};
+ghost use Rattle.book.specs.Parts.{mineFits};
 use rules::Book;
 use rules::Settings;
 

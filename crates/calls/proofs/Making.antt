@@ -19,7 +19,7 @@ use Rattle.cells.specs.Ground.{Sized, Mined, Zeros}
 use Rattle.cells.proofs.Filling.{cleared-zeros}
 use Rattle.cells.specs.Contracts.{Leaves}
 use Rattle.judging.proofs.Judging.{total-cells}
-use Rattle.calls.specs.Promises.{totals, asks}
+use Rattle.rules.specs.Promises.{totals, asks}
 use Rattle.calls.specs.Parts.{TotalMade}
 
 -- ---- the total -------------------------------------------------------------------------------------------------------------------------

@@ -1,12 +1,12 @@
 // The public calls that play no event: the board's own, setup and reset, the checks, and what is counted. None has a `requires`: for every input
-// its contract, one equation with a definition of rules' Calls (specs/Promises.antt), determines the answer, the position, the value and every lent list.
+// its contract, one equation of rules' Promises, determines the answer, the position, the value and every lent list.
 ghost use mathlib.Core.Path.{_≡_};
 ghost use Prim.Native.Nat.{_+_, _-_, _*_, _≤_};
 ghost use lib.ListN.{length};
 ghost use Rattle.rules.specs.Lent.{bitBytes, workRoom};
 ghost use Rattle.rules.specs.Calls.{cellsIn, answers, setUp, setupBy};
 ghost use Rattle.cells.specs.Ground.{Mined};
-ghost use Rattle.calls.specs.Promises.{CheckBoardIs, NumberMinesIs, Total3bvIs, SetupIs, ResetIs, CheckPositionIs, StepGameStateIs, BbbvSolvedIs, LeftToSolveIs};
+ghost use Rattle.rules.specs.Promises.{CheckBoardIs, NumberMinesIs, Total3bvIs, SetupIs, ResetIs, CheckPositionIs, StepGameStateIs, BbbvSolvedIs, LeftToSolveIs};
 ghost use Rattle.calls.specs.Parts.{TotalMade};
 use rules::Answer;
 use rules::GameState;

@@ -16,7 +16,7 @@ use Rattle.rules.specs.Words.{pick}
 use Rattle.rules.specs.States.{withEvents}
 use Rattle.rules.specs.Clicks.{desk}
 use Rattle.rules.specs.Calls.{Outcome, Asked, boardsFit, workFits, answers, outcome, refused, setUp, setupOf, resetOf, stepOf, flowOf, gameStateOf, bbbvSolvedOf, leftToSolveOf, totalOf, positionCheck}
-use Rattle.board.specs.Promises.{asks, totals}
+use Rattle.rules.specs.Promises.{asks, totals}
 use Rattle.board.proofs.Outcomes.{step-refused, flow-refused, step-game-state-refused, bbbv-solved-refused, left-to-solve-refused}
 use Rattle.flats.specs.declared.FlatPosition.{FlatPosition}
 use Rattle.flats.specs.declared.FlatAnswer.{FlatAnswer}

@@ -1,6 +1,6 @@
 // The library for C and Rust firmware: board's calls and the book reader under plain names, over lent slices and a flat position whose states
 // are bytes. Every byte pattern is taken; a state byte that means nothing makes the position unlawful, 26 (specs/Promises.antt).
-ghost use Rattle.board.specs.Promises.{CheckBoardIs, NumberMinesIs};
+ghost use Rattle.rules.specs.Promises.{CheckBoardIs, NumberMinesIs};
 ghost use Rattle.console.specs.Promises.{SetupIs, ResetIs, StepIs, StepFlowIs, CheckPositionIs, StepGameStateIs, BbbvSolvedIs, LeftToSolveIs, Total3bvIs, ReadBookIs};
 use flats::FlatAnswer;
 use flats::FlatBook;

@@ -11,12 +11,11 @@ use Rattle.rules.specs.declared.Settings.{Settings}
 use Rattle.rules.specs.Lent.{workRoom, workAfter}
 use Rattle.rules.specs.Clicks.{Desk, desk, done}
 use Rattle.rules.specs.Calls.{plays, lastPlay, cellsIn}
-use Rattle.rules.specs.Book.{bookOf, minesOf, eventsOf}
+use Rattle.rules.specs.Book.{bookOf, minesOf, eventsOf, partOf}
 use Rattle.rules.specs.Printout.{gameLine, eventLines, endLines, bookBoard, bookDesk, printoutBy, printoutOf}
 use Rattle.cells.specs.Ground.{Mined}
 use Rattle.keep.specs.Kept.{LawfulAt, Follows}
 use Rattle.keep.proofs.Step.{plays-follow}
-use Rattle.book.specs.Parts.{partOf}
 use Rattle.book.specs.Written.{Writable}
 use Rattle.book.proofs.Accepting.{events-part}
 use Rattle.book.proofs.Writing.{accepted-writable}

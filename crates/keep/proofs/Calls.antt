@@ -16,9 +16,9 @@ use Rattle.rules.specs.Board.{faceAt}
 use Rattle.rules.specs.Clicks.{Desk, desk, done, on}
 use Rattle.rules.specs.Step.{stepOn}
 use Rattle.rules.specs.Lawful.{cellLawful}
-use Rattle.rules.specs.Calls.{Outcome, SetUp, boardsFit, freshDesk, setupBy, setupRefusal, resetOf, answers, setUp, positionCheck, lentRefusal, refused, accepted, played, stepOf, plays, lastPlay, flowed, flowRefusal, flowOf, gameStateOf}
+use Rattle.rules.specs.Calls.{leftBy, setBy, Outcome, SetUp, boardsFit, freshDesk, setupBy, setupRefusal, resetOf, answers, setUp, positionCheck, lentRefusal, refused, accepted, played, stepOf, plays, lastPlay, flowed, flowRefusal, flowOf, gameStateOf}
 use Rattle.cells.proofs.Words.{pick-both}
-use Rattle.keep.specs.Kept.{LawfulAt, Follows, leftBy, setBy}
+use Rattle.keep.specs.Kept.{LawfulAt, Follows}
 use Rattle.keep.proofs.Lawful.{settings-accepted, accepted-ground, check-lawful, settings-check, check-passes}
 use Rattle.keep.proofs.Fresh.{fresh-lawful}
 use Rattle.keep.proofs.Opened.{lawful-later}

@@ -19,8 +19,7 @@ use Rattle.rules.specs.declared.MouseState.{MouseState}
 use Rattle.rules.specs.States.{isLoss, isNotFlag}
 use Rattle.rules.specs.Board.{faceAt, mineAt, valuesOk, numbersOk, someSafe}
 use Rattle.rules.specs.Lent.{bitAt, bitBytes}
-use Rattle.rules.specs.Clicks.{Desk, Play, desk, isWon}
-use Rattle.rules.specs.Calls.{Outcome, SetUp}
+use Rattle.rules.specs.Clicks.{Desk, Play, isWon}
 use Rattle.rules.specs.Lawful.{countShown, shows, isOpen, isFlag, isOpenOrHit, cellLawful}
 use Rattle.cells.specs.Ground.{Sized, Mined}
 
@@ -132,10 +131,3 @@ InsideOf s (Mr x) = Inside s x
 InsideOf s (Cc x) = Inside s x
 InsideOf s (Pf x) = Inside s x
 InsideOf s (Unknown code x) = Inside s x
-
--- the desk that a call leaves, and that setup and reset leave
-abbrev pub leftBy : Outcome → Desk
-leftBy o = desk (o .answer .position) (o .shown) (o .bits)
-
-abbrev pub setBy : SetUp → Desk
-setBy o = desk (o .answer .position) (o .shown) (o .bits)

@@ -16,6 +16,8 @@ use Rattle.rules.specs.Clicks.{Desk, Play, done}
 use Rattle.rules.specs.Lawful.{lawfulRefusal}
 use Rattle.rules.specs.Step.{stepOn}
 use Rattle.rules.specs.Calls.{
+  leftBy,
+  setBy,
   Outcome,
   answers,
   setUp,
@@ -42,7 +44,6 @@ use Rattle.rules.specs.Calls.{
   cellsIn,
 }
 use Rattle.cells.proofs.Words.{unless-passed}
-use Rattle.keep.specs.Kept.{leftBy, setBy}
 use Rattle.keep.proofs.Calls.{setup-keeps, step-call-keeps, flow-call-keeps}
 use Rattle.secrecy.proofs.Quiet.{over, aPlay, lostIn, Quiet, branch, then, only}
 use Rattle.secrecy.proofs.Hands.{idle}

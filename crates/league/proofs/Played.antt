@@ -16,9 +16,8 @@ use Rattle.rules.specs.Words.{pick}
 use Rattle.rules.specs.Lent.{workRoom}
 use Rattle.rules.specs.Clicks.{Desk, Play, done}
 use Rattle.rules.specs.Step.{pointerOf, refusalAt, playAt, stepAt, stepBy, stepOn}
-use Rattle.rules.specs.Calls.{freshDesk, Outcome, workFits, setupOf, stepOf, flowOf, cellsIn}
+use Rattle.rules.specs.Calls.{leftBy, setBy, freshDesk, Outcome, workFits, setupOf, stepOf, flowOf, cellsIn}
 use Rattle.cells.proofs.Words.{pick-both}
-use Rattle.keep.specs.Kept.{leftBy, setBy}
 use Rattle.game.proofs.Answers.{play-answers}
 use Rattle.secrecy.specs.Demand.{playsOn}
 use Rattle.secrecy.proofs.Rows.{rowOf}

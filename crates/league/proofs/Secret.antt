@@ -4,8 +4,7 @@ use mathlib.Core.List.{List, [], _∷_}
 use lib.IntN.{ℤ}
 use Rattle.rules.specs.declared.Settings.{Settings}
 use Rattle.rules.specs.Clicks.{Desk, Play, desk}
-use Rattle.rules.specs.Calls.{freshDesk, SetUp, setupOf, positionCheck}
-use Rattle.keep.specs.Kept.{setBy}
+use Rattle.rules.specs.Calls.{setBy, freshDesk, SetUp, setupOf, positionCheck}
 use Rattle.secrecy.specs.Demand.{seenAll, endOf, Twins}
 use Rattle.secrecy.proofs.Rows.{Move, rowOf, row-secrecy}
 use Rattle.league.specs.Secret.{Call, playOf, Row, none, next, Game, CodeDemand}

@@ -9,9 +9,8 @@ use Rattle.rules.specs.declared.Settings.{Settings}
 use Rattle.rules.specs.declared.Answer.{Answer}
 use Rattle.rules.specs.Clicks.{Desk, Play, desk, done}
 use Rattle.rules.specs.Step.{stepOn}
-use Rattle.rules.specs.Calls.{Outcome, workFits, setupOf}
-use Rattle.keep.specs.Kept.{leftBy}
-use Rattle.board.specs.Promises.{SetupIs, StepIs, StepFlowIs}
+use Rattle.rules.specs.Calls.{leftBy, Outcome, workFits, setupOf}
+use Rattle.rules.specs.Promises.{SetupIs, StepIs, StepFlowIs}
 use Rattle.secrecy.specs.Demand.{seenAll, game, endOf, Twins}
 
 -- what is called: step with one event, or step_flow with a row of events

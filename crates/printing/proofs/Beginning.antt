@@ -12,7 +12,7 @@ use Rattle.rules.specs.Board.{numbered, numberedAt, numberingRefusal}
 use Rattle.rules.specs.Lent.{workRoom}
 use Rattle.rules.specs.Clicks.{desk}
 use Rattle.rules.specs.Calls.{Numbered, numberingOf, cellsIn}
-use Rattle.rules.specs.Book.{bookOf, minesOf}
+use Rattle.rules.specs.Book.{bookOf, minesOf, partOf}
 use Rattle.rules.specs.Printout.{bookBoard, bookDesk}
 use Rattle.keep.specs.Kept.{LawfulAt}
 use Rattle.cells.proofs.Face.{values-valued}
@@ -20,7 +20,6 @@ use Rattle.keep.proofs.Lawful.{board-accepted}
 use Rattle.keep.proofs.Fresh.{fresh-lawful}
 use Rattle.cells.proofs.Words.{inOrder-length}
 use Rattle.numbering.proofs.Numbering.{numbered-accepted}
-use Rattle.book.specs.Parts.{partOf}
 use Rattle.book.proofs.Accepting.{mines-part}
 use Rattle.book.proofs.Book.{accepted-numbers}
 use Rattle.printing.specs.Boards.{Fit, Begun}

@@ -1,6 +1,6 @@
 -- The game book: three sections in fixed order, read front to back; the first fault answers, with its byte place.
 use mathlib.Core.Bool.{Bool, true, false}
-use mathlib.Core.List.{List}
+use mathlib.Core.List.{List, []}
 use Prim.Native.Nat.{ℕ, zero, suc, _+_, _*_}
 use lib.Dec.{ltb, leb, eqb}
 use lib.ListN.{length, getD, take, drop}
@@ -103,3 +103,7 @@ minesOf s b = take (2 * b .mines) (drop (b .«mines_at») s)
 
 unfoldable pub eventsOf : List ℕ → Book → List ℕ
 eventsOf s b = take (3 * b .events) (drop (b .«events_at») s)
+
+-- what is handed back: n bytes from a place on, without a copy; none where they do not fit
+unfoldable pub partOf : List ℕ → ℕ → ℕ → List ℕ
+partOf s at n = pick (leb (at + n) (length s)) (take n (drop at s)) []

@@ -80,6 +80,10 @@ pub record SetUp : Type 0 where
 abbrev pub setUp : Answer → List ℕ → List ℕ → SetUp
 setUp a shown bits = record { answer = a; shown = shown; bits = bits }
 
+-- the desk that setup and reset leave
+abbrev pub setBy : SetUp → Desk
+setBy o = desk (o .answer .position) (o .shown) (o .bits)
+
 -- `otherwise` is the position that a refusal gives back
 unfoldable pub setupBy : ℕ → Position → Settings → List ℕ → List ℕ → SetUp
 setupBy n otherwise s shown bits =
@@ -103,6 +107,10 @@ resetOf B d =
 
 abbrev pub outcome : Answer → List ℕ → List ℕ → List ℕ → Outcome
 outcome a shown bits work = record { answer = a; shown = shown; bits = bits; work = work }
+
+-- the desk that a call leaves
+abbrev pub leftBy : Outcome → Desk
+leftBy o = desk (o .answer .position) (o .shown) (o .bits)
 
 -- a refusal returns its number and the position given, and writes nothing lent
 abbrev pub refused : ℕ → Desk → List ℕ → Outcome

@@ -11,6 +11,7 @@ pub mod Mouse
 pub mod Step
 pub mod Lawful
 pub mod Calls
+pub mod Promises
 pub mod Book
 pub mod Printout
 pub mod Positions

@@ -1,10 +1,10 @@
 // The public call that plays one event: it tests all, 20 to 33. `board` passes it on.
-// The contract is one equation with a definition of rules' Calls (specs/Step.antt): it determines the answer, the position and every lent list.
+// The contract is one equation of rules' Promises: it determines the answer, the position and every lent list.
 ghost use Prim.Native.Nat.{_≤_};
 ghost use lib.ListN.{length};
 ghost use Rattle.rules.specs.Lent.{workRoom};
 ghost use Rattle.rules.specs.Calls.{cellsIn};
-ghost use Rattle.stepping.specs.Step.{StepIs};
+ghost use Rattle.rules.specs.Promises.{StepIs};
 ghost use Rattle.stepping.specs.Parts.{Blanked};
 use rules::Answer;
 use rules::Decoded;

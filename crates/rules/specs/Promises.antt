@@ -1,16 +1,16 @@
--- What each call promises of its outcome: one equation with a definition of rules' Calls, over the answer and every lent list at the end.
+-- The promises of the public calls: each one equation between what the call leaves and its definition, over the answer and every lent list.
 -- A list with a prime is what stands in the lent memory after the call.
 use mathlib.Core.Path.{_≡_}
 use mathlib.Core.List.{List}
 use Prim.Native.Nat.{ℕ}
 use lib.IntN.{ℤ}
 use Rattle.rules.specs.declared.Position.{Position}
 use Rattle.rules.specs.declared.Settings.{Settings}
 use Rattle.rules.specs.declared.Answer.{Answer}
 use Rattle.rules.specs.declared.Value.{Value}
 use Rattle.rules.specs.Board.{boardCheck}
 use Rattle.rules.specs.Clicks.{desk}
-use Rattle.rules.specs.Calls.{Numbered, Totalled, Asked, setUp, numberingOf, totalOf, setupOf, resetOf, positionCheck, gameStateOf, bbbvSolvedOf, leftToSolveOf}
+use Rattle.rules.specs.Calls.{Numbered, Totalled, Asked, setUp, outcome, numberingOf, totalOf, setupOf, resetOf, positionCheck, stepOf, flowOf, gameStateOf, bbbvSolvedOf, leftToSolveOf}
 
 -- an outcome: what is answered, with what the lent lists are then
 abbrev pub numbers : ℕ → List ℤ → Numbered
@@ -39,6 +39,12 @@ ResetIs p B shown bits r shown′ bits′ = setUp r shown′ bits′ ≡ resetOf
 
 abbrev pub CheckPositionIs : Position → List ℤ → List ℕ → List ℕ → ℕ → Type 0
 CheckPositionIs p B shown bits r = r ≡ positionCheck B (desk p shown bits)
+
+abbrev pub StepIs : Position → ℕ → ℕ → ℕ → List ℤ → List ℕ → List ℕ → List ℕ → Answer → List ℕ → List ℕ → List ℕ → Type 0
+StepIs p code row column B shown bits work r shown′ bits′ work′ = outcome r shown′ bits′ work′ ≡ stepOf B code row column (desk p shown bits) work
+
+abbrev pub StepFlowIs : Position → List ℕ → List ℤ → List ℕ → List ℕ → List ℕ → Answer → List ℕ → List ℕ → List ℕ → Type 0
+StepFlowIs p events B shown bits work r shown′ bits′ work′ = outcome r shown′ bits′ work′ ≡ flowOf B events (desk p shown bits) work
 
 abbrev pub StepGameStateIs : Position → List ℤ → List ℕ → List ℕ → ℕ → Answer → Type 0
 StepGameStateIs p B shown bits event r = r ≡ gameStateOf B event (desk p shown bits)
