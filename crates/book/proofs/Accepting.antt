@@ -14,7 +14,7 @@ use Rattle.rules.specs.Words.{pick, every}
 use Rattle.rules.specs.Grid.{sizeOk}
 use Rattle.rules.specs.Board.{mineOk}
 use Rattle.rules.specs.Calls.{modeOk}
-use Rattle.rules.specs.Book.{refusedBook, orElse, reaches, byteAt, wordAt, settingsAt, maxEvents, minesFrom, minesSection, eventsFrom, settingsSection, sectionsOf, eventsEnd, bookEnds, bookOf, minesOf, eventsOf, partOf}
+use Rattle.rules.specs.Book.{refusedBook, orElse, reaches, byteAt, wordAt, settingsAt, maxEvents, minesFrom, minesSection, eventsFrom, settingsSection, mineCountAt, sectionsOf, eventsEnd, bookEnds, bookOf, minesOf, eventsOf, partOf}
 use Rattle.book.specs.Laid.{SettingsLaid, LaidFrom, Laid, readFrom, laidBook, eventCountAt, endAt}
 use Rattle.book.specs.Written.{longestFrom, longest}
 use Rattle.cells.proofs.Words.{pick-both, every-at, every-turn}
@@ -143,22 +143,23 @@ module _ (s : List ℕ) (rest : Book) where
 -- ---- the whole book --------------------------------------------------------------------------------------------------------------------
 
 -- the sections are right exactly if they are laid out, and so read
-sections-laid : (s : List ℕ) → sectionsOf s .number ≡ 0 → SettingsLaid s × LaidFrom s 5 (settingsAt s)
+sections-laid : (s : List ℕ) → sectionsOf s .number ≡ 0 → SettingsLaid s × LaidFrom s (mineCountAt s) (settingsAt s)
 unfolding sectionsOf
-sections-laid s e = let p = settings-passed s (minesSection s 5 (settingsAt s)) e in (p .0, section-passed s 5 (settingsAt s) (p .1))
+sections-laid s e = let p = settings-passed s (minesSection s (mineCountAt s) (settingsAt s)) e in (p .0, section-passed s (mineCountAt s) (settingsAt s) (p .1))
 
-sections-read : (s : List ℕ) → SettingsLaid s → LaidFrom s 5 (settingsAt s) → sectionsOf s ≡ laidBook s
+sections-read : (s : List ℕ) → SettingsLaid s → LaidFrom s (mineCountAt s) (settingsAt s) → sectionsOf s ≡ laidBook s
 unfolding sectionsOf
-sections-read s g l = settings-read s (minesSection s 5 (settingsAt s)) g ∙ section-read s 5 (settingsAt s) l
+sections-read s g l = settings-read s (minesSection s (mineCountAt s) (settingsAt s)) g ∙ section-read s (mineCountAt s) (settingsAt s) l
 
 -- they end no later than those of the longest book
-laid-short : (s : List ℕ) → SettingsLaid s → LaidFrom s 5 (settingsAt s) → endAt s 5 ≤ longest
-laid-short s g l = section-short s 5 (settingsAt s) (size-limits (byteAt s 1) (byteAt s 2) (g .size) .cells) l
+laid-short : (s : List ℕ) → SettingsLaid s → LaidFrom s (mineCountAt s) (settingsAt s) → endAt s (mineCountAt s) ≤ longest
+laid-short s g l =
+    omega (arith, g .four, section-short s (mineCountAt s) (settingsAt s) (size-limits (byteAt s 1) (byteAt s 2) (g .size) .cells) l)
 
 pub sections-short : (s : List ℕ) → sectionsOf s .number ≡ 0 → eventsEnd (sectionsOf s) ≤ longest
 sections-short s z =
     let l = sections-laid s z in
-    let ends : eventsEnd (sectionsOf s) ≡ endAt s 5 = ap eventsEnd (sections-read s (l .0) (l .1)) in
+    let ends : eventsEnd (sectionsOf s) ≡ endAt s (mineCountAt s) = ap eventsEnd (sections-read s (l .0) (l .1)) in
     omega (arith, laid-short s (l .0) (l .1))
 
 end-passed : (s : List ℕ) (end : ℕ) (b : Book) → bookEnds s end b .number ≡ 0 → (b .number ≡ 0) × (length s ≤ end)
@@ -175,8 +176,8 @@ unfolding bookOf
 accepted-laid s e =
     let p = end-passed s (eventsEnd (sectionsOf s)) (sectionsOf s) e in
     let l = sections-laid s (p .0) in
-    let there : endAt s 5 ≤ length s = l .1 .there in
-    let ends : eventsEnd (sectionsOf s) ≡ endAt s 5 = ap eventsEnd (sections-read s (l .0) (l .1)) in
+    let there : endAt s (mineCountAt s) ≤ length s = l .1 .there in
+    let ends : eventsEnd (sectionsOf s) ≡ endAt s (mineCountAt s) = ap eventsEnd (sections-read s (l .0) (l .1)) in
     let over = p .1 in
     record { settings = l .0; sections = l .1; ends = omega arith }
 
@@ -191,7 +192,7 @@ pub laid-read : (s : List ℕ) → Laid s → bookOf s ≡ laidBook s
 unfolding bookOf
 laid-read s l =
     let read : sectionsOf s ≡ laidBook s = sections-read s (l .settings) (l .sections) in
-    let ends : eventsEnd (sectionsOf s) ≡ endAt s 5 = ap eventsEnd read in
+    let ends : eventsEnd (sectionsOf s) ≡ endAt s (mineCountAt s) = ap eventsEnd read in
     end-right s (eventsEnd (sectionsOf s)) (sectionsOf s) (ap (λ (b : Book). b .number) read) (omega (arith, l .ends)) ∙ read
 
 -- ---- every byte string is read or refused ----------------------------------------------------------------------------------------------
@@ -242,9 +243,9 @@ settings-answered s a =
 
 sections-answered : (s : List ℕ) → Answered (sectionsOf s)
 unfolding sectionsOf
-sections-answered s = settings-answered s (section-answered s 5 (settingsAt s))
+sections-answered s = settings-answered s (section-answered s (mineCountAt s) (settingsAt s))
 
--- what holds of a book and of every refusal holds of it with its end tested
+-- what holds of a book, and of it refused for bytes left over, holds once its end is tested
 end-either : (P : Book → Type 0) (s : List ℕ) (end : ℕ) (b : Book) → P b → P (refusedBook 43 end) → P (bookEnds s end b)
 unfolding bookEnds
 end-either P s end b p q =
@@ -272,7 +273,7 @@ sections-within s = go (sectionsOf s) refl (sections-answered s)
     go : (b : Book) → sectionsOf s ≡ b → Answered b → Within s b
     go b e (read z) =
         let l = sections-laid s (ap (λ (x : Book). x .number) e ∙ z) in
-        let there : endAt s 5 ≤ length s = l .1 .there in
+        let there : endAt s (mineCountAt s) ≤ length s = l .1 .there in
         subst (λ (x : Book). Within s x) (sym (sections-read s (l .0) (l .1)) ∙ e) (record { mines = omega arith; events = omega arith })
     go _ e (refused n place h) = record { mines = omega arith; events = omega arith }
 

@@ -1,11 +1,11 @@
 -- Nothing past the longest book is read: a longer byte string and its first bytes get the same answer, so that a reader may stop there.
-use mathlib.Core.Path.{_≡_, _∙_, sym, ap, refl}
+use mathlib.Core.Path.{_≡_, _∙_, sym, ap, ap₂, refl}
 use mathlib.Core.Bool.{Bool, true, false}
 use mathlib.Core.List.{List}
 use Prim.Native.Nat.{ℕ, zero, suc, _+_, _*_, _<_, _≤_}
 use native.Mathlib.Omega.{arith}
 use native.Mathlib.Decide.{decLt, ℕ-discrete}
-use borrow.Author.Tests.{le-leb, lt-leb, ne-eqb}
+use borrow.Author.Tests.{le-leb, lt-leb, eqb-true, ne-eqb}
 use lib.Dec.{leb, eqb}
 use lib.ListN.{length, take, drop}
 use lib.Seq.{length-take-le, take-all, getD-take, getD-drop}
@@ -14,7 +14,7 @@ use Rattle.rules.specs.declared.Book.{Book}
 use Rattle.rules.specs.Grid.{sizeOk}
 use Rattle.rules.specs.Board.{mineOk}
 use Rattle.rules.specs.Calls.{modeOk}
-use Rattle.rules.specs.Book.{refusedBook, orElse, reaches, byteAt, wordAt, settingsAt, maxEvents, minesFrom, minesSection, eventsFrom, settingsSection, sectionsOf, eventsEnd, bookEnds, bookOf}
+use Rattle.rules.specs.Book.{refusedBook, orElse, reaches, byteAt, wordAt, settingsAt, maxEvents, minesFrom, minesSection, eventsFrom, settingsSection, mineCountAt, sectionsOf, eventsEnd, bookEnds, bookOf}
 use Rattle.rules.specs.Printout.{printoutBy, printoutOf}
 use Rattle.book.specs.Written.{longestFrom, longest}
 use Rattle.book.proofs.Reading.{mines-too-many, mines-counted, end-unread, end-over}
@@ -119,12 +119,12 @@ module _ (s : List ℕ) (n : ℕ) (long : longest < n) (more : n ≤ length s) w
       let sizes : sizeOk (byteAt cut 1) (byteAt cut 2) ≡ sizeOk (byteAt s 1) (byteAt s 2) = cc in
       reaches-same 1 (omega arith)
       (or-else-same 41 0 (eqb (byteAt cut 0) 4) (eqb (byteAt s 0) 4) (ap (λ (b : ℕ). eqb b 4) (byte-same 0 (omega arith)))
-      (λ _. reaches-same 5 (omega arith)
+      (λ four. reaches-same 5 (omega arith)
       (or-else-same 41 4 (leb (byteAt cut 4) 1) (leb (byteAt s 4) 1) (ap (λ (b : ℕ). leb b 1) (byte-same 4 (omega arith)))
       (λ _. or-else-same 20 1 (sizeOk (byteAt cut 1) (byteAt cut 2)) (sizeOk (byteAt s 1) (byteAt s 2)) sizes
       (λ size. or-else-same 25 3 (modeOk (byteAt cut 3)) (modeOk (byteAt s 3)) (ap modeOk (byte-same 3 (omega arith)))
-      (λ _. ap (λ (g : Settings). minesSection cut 5 g) settings-same
-      ∙ section-same 5 (settingsAt s) (omega arith) (size-limits (byteAt s 1) (byteAt s 2) size .cells)))))))
+      (λ _. ap₂ (minesSection cut) (ap (λ (b : ℕ). 1 + b) (byte-same 0 (omega arith))) settings-same
+      ∙ section-same (mineCountAt s) (settingsAt s) (omega (arith, eqb-true (byteAt s 0) 4 four)) (size-limits (byteAt s 1) (byteAt s 2) size .cells)))))))
 
   -- where the sections end before the cut, bytes are left over on both sides
   end-same : (end : ℕ) (b : Book) → (b .number ≡ 0 → end < n) → bookEnds cut end b ≡ bookEnds s end b

@@ -14,7 +14,7 @@ use Rattle.rules.specs.declared.Book.{Book}
 use Rattle.rules.specs.Grid.{sizeOk, cellOf}
 use Rattle.rules.specs.Board.{mineOk, mineCell, rises}
 use Rattle.rules.specs.Calls.{modeOk}
-use Rattle.rules.specs.Book.{refusedBook, byteAt, wordAt, minesFrom, minesSection, eventsFrom, settingsSection, bookEnds, partOf}
+use Rattle.rules.specs.Book.{refusedBook, byteAt, wordAt, minesFrom, minesSection, eventsFrom, settingsSection, mineCountAt, bookEnds, partOf}
 use Rattle.book.specs.Parts.{mineFits}
 
 -- ---- parts -----------------------------------------------------------------------------------------------------------------------------
@@ -200,6 +200,10 @@ module _ (s : List ℕ) (rest : Book) (four : byteAt s 0 ≡ 4) (five : 5 ≤ le
       → settingsSection s rest ≡ rest
   unfolding settingsSection
   settings-right question size mode = simp (le-leb _ _ some, eq-eqb _ _ four, le-leb _ _ five, question, size, mode)
+
+-- the mine count stands after four bytes of settings
+pub mines-after : (s : List ℕ) (g : Settings) {b : Book} → byteAt s 0 ≡ 4 → b ≡ minesSection s 5 g → b ≡ minesSection s (mineCountAt s) g
+mines-after s g four e = e ∙ ap (λ (k : ℕ). minesSection s (1 + k) g) (sym four)
 
 -- ---- the end ---------------------------------------------------------------------------------------------------------------------------
 

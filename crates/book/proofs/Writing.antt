@@ -13,7 +13,7 @@ use Rattle.rules.specs.Words.{bit, every}
 use Rattle.rules.specs.Grid.{sizeOk}
 use Rattle.rules.specs.Board.{minesIn, mineCell, rises, mineOk}
 use Rattle.rules.specs.Calls.{modeOk}
-use Rattle.rules.specs.Book.{byteAt, wordAt, settingsAt, bookOf, minesOf, eventsOf}
+use Rattle.rules.specs.Book.{byteAt, wordAt, settingsAt, mineCountAt, bookOf, minesOf, eventsOf}
 use Rattle.book.specs.Laid.{SettingsLaid, LaidFrom, Laid, eventCountAt, endAt}
 use Rattle.book.specs.Written.{word, settingsBytes, eventsIn, sectionsBytes, written, Writable, Bytes}
 use Rattle.cells.proofs.Words.{every-same}
@@ -173,7 +173,7 @@ module _ (g : Settings) (ms es : List ℕ) (w : Writable g ms es) where
           size = w .size;
           mode = w .mode;
         };
-        sections = subst⁻¹ (LaidFrom (written g ms es) 5) written-settings (sections-written (settingsBytes g) g ms es w);
+        sections = subst⁻¹ (LaidFrom (written g ms es) (mineCountAt (written g ms es))) written-settings (sections-written (settingsBytes g) g ms es w);
         ends = sections-ends (settingsBytes g) g ms es w;
       }
 
@@ -191,7 +191,7 @@ module _ (g : Settings) (ms es : List ℕ) (w : Writable g ms es) where
       }
   unfolding written
   written-read =
-      let at : eventCountAt (written g ms es) 5 + 2 ≡ 9 + length ms = omega (arith, events-place (settingsBytes g) g ms es w) in
+      let at : eventCountAt (written g ms es) (mineCountAt (written g ms es)) + 2 ≡ 9 + length ms = omega (arith, events-place (settingsBytes g) g ms es w) in
       laid-read (written g ms es) written-laid
       ∙ told-same written-settings (mine-count (settingsBytes g) g ms es w) at (event-count (settingsBytes g) g ms es w)
 
@@ -267,7 +267,7 @@ module _ (s : List ℕ) (at : ℕ) (g : Settings) (l : LaidFrom s at g) where
         ∙ ap (λ (k : ℕ). word (minesIn mineList) ++ (mineList ++ (word k ++ records))) (sym events-back)
 
 -- the settings, then what follows them
-settings-split : (s : List ℕ) → SettingsLaid s → s ≡ settingsBytes (settingsAt s) ++ drop 5 s
+settings-split : (s : List ℕ) → SettingsLaid s → s ≡ settingsBytes (settingsAt s) ++ drop (mineCountAt s) s
 settings-split s l =
     drop-cons s 0 0 (omega (arith, l .five)) ∙ ap (λ (t : List ℕ). byteAt s 0 ∷ t) (drop-cons s 1 0 (omega (arith, l .five)))
     ∙ ap (λ (t : List ℕ). byteAt s 0 ∷ byteAt s 1 ∷ t) (drop-cons s 2 0 (omega (arith, l .five)))
@@ -275,6 +275,7 @@ settings-split s l =
     ∙ ap (λ (t : List ℕ). byteAt s 0 ∷ byteAt s 1 ∷ byteAt s 2 ∷ byteAt s 3 ∷ t) (drop-cons s 4 0 (omega (arith, l .five)))
     ∙ ap (λ (b : ℕ). b ∷ byteAt s 1 ∷ byteAt s 2 ∷ byteAt s 3 ∷ byteAt s 4 ∷ drop 5 s) (l .four)
     ∙ ap (λ (b : ℕ). 4 ∷ byteAt s 1 ∷ byteAt s 2 ∷ byteAt s 3 ∷ b ∷ drop 5 s) (sym (question-back (byteAt s 4) (l .question)))
+    ∙ ap (λ (b : ℕ). settingsBytes (settingsAt s) ++ drop (1 + b) s) (sym (l .four))
 
 -- ---- an accepted book ------------------------------------------------------------------------------------------------------------------
 
@@ -286,7 +287,7 @@ module _ (s : List ℕ) (e : bookOf s .number ≡ 0) where
   unfolding minesOf eventsOf mineList records
   accepted-writable =
       subst (λ (b : Book). Writable (b .settings) (take (2 * b .mines) (drop (b .«mines_at») s)) (take (3 * b .events) (drop (b .«events_at») s)))
-      (sym (laid-read s laid)) (laid-writable s 5 (settingsAt s) (laid .sections) (laid .settings .size) (laid .settings .mode))
+      (sym (laid-read s laid)) (laid-writable s (mineCountAt s) (settingsAt s) (laid .sections) (laid .settings .size) (laid .settings .mode))
 
   pub accepted-written : Bytes s → s ≡ written (bookOf s .settings) (minesOf s (bookOf s)) (eventsOf s (bookOf s))
   unfolding minesOf eventsOf mineList records written
@@ -295,4 +296,4 @@ module _ (s : List ℕ) (e : bookOf s .number ≡ 0) where
       (λ (b : Book). s ≡ written (b .settings) (take (2 * b .mines) (drop (b .«mines_at») s)) (take (3 * b .events) (drop (b .«events_at») s)))
       (sym (laid-read s laid))
       (settings-split s (laid .settings)
-      ∙ ap (λ (t : List ℕ). settingsBytes (settingsAt s) ++ t) (sections-back s 5 (settingsAt s) (laid .sections) (laid .ends) bytes))
+      ∙ ap (λ (t : List ℕ). settingsBytes (settingsAt s) ++ t) (sections-back s (mineCountAt s) (settingsAt s) (laid .sections) (laid .ends) bytes))

@@ -10,7 +10,7 @@ use Rattle.rules.specs.Words.{every}
 use Rattle.rules.specs.Grid.{sizeOk}
 use Rattle.rules.specs.Board.{mineOk}
 use Rattle.rules.specs.Calls.{modeOk}
-use Rattle.rules.specs.Book.{byteAt, wordAt, settingsAt, maxEvents}
+use Rattle.rules.specs.Book.{byteAt, wordAt, settingsAt, mineCountAt, maxEvents}
 
 -- the bytes of the settings are there and right
 pub record SettingsLaid (s : List ℕ) : Type 0 where
@@ -49,9 +49,9 @@ readFrom s at g = record {
 -- a byte string has the form of a book
 pub record Laid (s : List ℕ) : Type 0 where
   pub settings : SettingsLaid s
-  pub sections : LaidFrom s 5 (settingsAt s)
-  pub ends : length s ≡ endAt s 5
+  pub sections : LaidFrom s (mineCountAt s) (settingsAt s)
+  pub ends : length s ≡ endAt s (mineCountAt s)
 
 -- what is read in it
 abbrev pub laidBook : List ℕ → Book
-laidBook s = readFrom s 5 (settingsAt s)
+laidBook s = readFrom s (mineCountAt s) (settingsAt s)

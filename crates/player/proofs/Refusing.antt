@@ -15,7 +15,7 @@ use Rattle.rules.specs.Grid.{sizeOk}
 use Rattle.rules.specs.Board.{mineOk}
 use Rattle.rules.specs.Calls.{modeOk}
 use Rattle.rules.specs.Lent.{bitBytes}
-use Rattle.rules.specs.Book.{byteAt, wordAt, orElse, reaches, maxEvents, eventsFrom, minesFrom, minesSection, settingsAt, settingsSection, sectionsOf, eventsEnd, bookEnds, bookOf}
+use Rattle.rules.specs.Book.{byteAt, wordAt, orElse, reaches, maxEvents, eventsFrom, minesFrom, minesSection, settingsAt, settingsSection, mineCountAt, sectionsOf, eventsEnd, bookEnds, bookOf}
 use Rattle.rules.specs.Printout.{printoutBy, printoutOf}
 use Rattle.cells.proofs.Words.{pick-both}
 use Rattle.cells.proofs.Grid.{size-limits}
@@ -86,7 +86,7 @@ end-placed s end b a =
 
 book-placed : (s : List ℕ) → Placed (length s) (bookOf s)
 unfolding bookOf sectionsOf
-book-placed s = end-placed s (eventsEnd (sectionsOf s)) (sectionsOf s) (settings-placed s (section-placed s 5 (settingsAt s)))
+book-placed s = end-placed s (eventsEnd (sectionsOf s)) (sectionsOf s) (settings-placed s (section-placed s (mineCountAt s) (settingsAt s)))
 
 module _ (s : List ℕ) (b : Book) (e : b ≡ bookOf s) where
   pub place-within : b .place ≤ length s

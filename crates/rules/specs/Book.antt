@@ -82,9 +82,13 @@ settingsSection s rest =
 
 -- ---- the whole book --------------------------------------------------------------------------------------------------------------------
 
+-- the mine count follows the settings: their count byte, and as many bytes
+abbrev pub mineCountAt : List ℕ → ℕ
+mineCountAt s = 1 + byteAt s 0
+
 -- the three sections: what stands up to the last event
 unfoldable pub sectionsOf : List ℕ → Book
-sectionsOf s = settingsSection s (minesSection s 5 (settingsAt s))
+sectionsOf s = settingsSection s (minesSection s (mineCountAt s) (settingsAt s))
 
 -- where the last event ends
 abbrev pub eventsEnd : Book → ℕ

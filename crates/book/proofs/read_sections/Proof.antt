@@ -3,7 +3,7 @@ use borrow.Author.Tests.{le-leb, lt-leb, eq-eqb, ne-eqb, not-true, not-false}
 use mathlib.Core.Path.{_∙_, sym}
 use borrow.Author.Needs.{needs}
 use Rattle.rules.specs.Book.{settingsSection, sectionsOf}
-use Rattle.book.proofs.Reading.{question-wrong, size-wrong, mode-wrong, settings-right}
+use Rattle.book.proofs.Reading.{question-wrong, size-wrong, mode-wrong, settings-right, mines-after}
 use Rattle.book.proofs.read_sections.Statement.{statement}
 use Rattle.book.proofs.read_sections.Tie as tie
 
@@ -77,7 +77,7 @@ read-mines-requires c κs = search needs
 
 returns-7 : tie.Need-returns-7
 unfolding sectionsOf
-returns-7 c = c .read-mines .ensures
+returns-7 c = mines-after _ _ (c .before .before .before .before .before .before .before .before .before .before .before .if2 .left) (c .read-mines .ensures)
     ∙ sym (settings-right _ _ (c .before .before .before .before .before .before .before .before .before .before .before .if2 .left) (c .before .before .before .before .before .before .before .before .before .before .if3 .left) (not-false _ (c .before .before .before .if4 .left)) (sym (c .before .before .before .before .before .size-ok .ensures) ∙ not-false _ (c .before .before .if5 .left)) (sym (c .before .before .before .before .mode-ok .ensures) ∙ not-false _ (c .before .if6 .left)))
 
 pub read-sections-spec : {M : Type 1} → statement M
