@@ -15,17 +15,18 @@ use Rattle.rules.specs.declared.Decoded.the-variants.{At, Bad}
 use Rattle.rules.specs.Words.{pick}
 use Rattle.rules.specs.Lent.{workRoom, workAfter}
 use Rattle.rules.specs.Clicks.{Desk, Play, desk, done}
-use Rattle.rules.specs.Step.{pointerOf, refusalAt, stepAt, stepBy, stepOn}
+use Rattle.rules.specs.Step.{pointerOf, plainOf, refusalAt, stepAt, stepBy, stepOn}
 use Rattle.rules.specs.Lawful.{lawfulRefusal}
 use Rattle.rules.specs.Calls.{answers, outcome, cellsIn, boardsFit, workFits, positionRefusal, plays, lastPlay, anyAccepted, flowRefusal, flowOf}
 use Rattle.keep.specs.Kept.{LawfulAt}
 use Rattle.cells.proofs.Words.{and-left, and-right}
 use Rattle.keep.proofs.Lawful.{settings-accepted, flow-lawful}
 use Rattle.keep.proofs.Step.{plays-follow}
-use Rattle.stepping.proofs.Stepping.{refused-large}
-use Rattle.game.specs.Core.{refusalBy, refusalOn, firstRefusal, flowOn}
-use Rattle.game.proofs.Flows.{three}
+use Rattle.flows.specs.Runs.{flowOn}
+use Rattle.flows.proofs.Flows.{three}
 use Rattle.game.proofs.Answers.{play-answers}
+use Rattle.board.specs.Parts.{refusalBy, refusalOn, firstRefusal}
+use Rattle.board.proofs.Stepping.{refused-large}
 
 pub flow-kept : (B : List ℤ) (events : List ℕ) (d : Desk) (work : List ℕ) (n : ℕ) → n ≡ flowRefusal B events d work → n ≡ 0 → LawfulAt B d
 flow-kept B events d work n e z = flow-lawful B events d work (sym e ∙ z)
@@ -51,8 +52,8 @@ flow-whole B events d work n e z =
 
 -- an event that would be refused is, and leaves the desk
 step-refused-by : (B : List ℤ) (code : ℕ) (w : Decoded) (d : Desk) (k : ℕ) → k ≡ refusalBy code w d → (k ≡ 0 → ⊥) → (20 ≤ k) × (stepBy B code w d ≡ done k d)
-unfolding stepBy stepAt
-step-refused-by B code (At x) d k e z = (refused-large code x d k e z, rw (← e, ne-eqb k 0 z))
+unfolding stepBy stepAt refusalAt
+step-refused-by B code (At x) d k e z = (refused-large (plainOf code x d) d k e z, rw (← e, ne-eqb k 0 z))
 step-refused-by B code Bad d k e z = (omega arith, rw e)
 
 -- one that would not be answers below 20

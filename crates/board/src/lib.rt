@@ -1,14 +1,16 @@
-// THE PUBLIC FACE: what `calls` offers, the step of `stepping`, and here a row of events. No public function has a `requires`: for every
-// input its contract, one equation of rules' Promises, determines the answer, the position, the value
-// and every lent list.
+// THE PUBLIC FACE: what `calls` offers, and here one event and a row of events. No public function has a `requires`: for every input its
+// contract, one equation of rules' Promises, determines the answer, the position, the value and every lent list.
 ghost use mathlib.Core.Path.{_≡_};
 ghost use mathlib.Core.List.{List};
-ghost use Prim.Native.Nat.{ℕ};
+ghost use Prim.Native.Nat.{ℕ, _≤_};
 ghost use lib.Dec.{leb};
+ghost use lib.ListN.{length};
 ghost use Rattle.rules.specs.Words.{pick};
+ghost use Rattle.rules.specs.Lent.{workRoom};
 ghost use Rattle.rules.specs.Clicks.{desk};
-ghost use Rattle.game.specs.Core.{firstRefusal};
-ghost use Rattle.rules.specs.Promises.{StepFlowIs};
+ghost use Rattle.rules.specs.Calls.{cellsIn};
+ghost use Rattle.rules.specs.Promises.{StepIs, StepFlowIs};
+ghost use Rattle.board.specs.Parts.{firstRefusal, Blanked};
 pub use calls::check_board;
 pub use calls::check_position;
 pub use calls::get_bbbv_solved;
@@ -19,8 +21,52 @@ pub use calls::setup;
 pub use calls::step_game_state;
 pub use calls::total_3bv;
 use rules::Answer;
+use rules::Decoded;
 use rules::Position;
-pub use stepping::step;
+use rules::Settings;
+
+// Work comes in as it comes: it is cleared before the core plays on it, which gives it back so.
+fn blank(s: Settings, work: &mut [u16])
+    requires { ⌜ workRoom (cellsIn s) ≤ length (now work) ⌝ }
+    ensures { λ _. ⌜ Blanked s (now (work .entry)) (now (work .exit)) ⌝ }
+{
+    let cells = boards::cell_count(s.rows, s.columns);
+    cells::clear(&mut *work, 8 * cells + 8);
+}
+
+// A step tests all, 20 to 33.
+pub fn step(
+    p: Position,
+    code: u8,
+    row: u8,
+    column: u8,
+    mines: &[i8],
+    shown: &mut [u8],
+    bits: &mut [u8],
+    work: &mut [u16],
+) -> Answer
+    ensures { λ r. ⌜ StepIs p code row column (now (mines .entry)) (now (shown .entry)) (now (bits .entry)) (now (work .entry)) r (now (shown .exit)) (now (bits .exit)) (now (work .exit)) ⌝ }
+{
+    let n = refusals::lent_refusal(p, mines, &*shown, &*bits, &*work);
+    if n != 0 {
+        return calls::answer(n, p, 0);
+    }
+    let s = p.settings;
+    let Decoded::At(x) = mouse::decode(s, row, column) else {
+        return calls::answer(30, p, 0);
+    };
+    let h = mouse::resolve_at(p, code, x);
+    let e = h.event;
+    let k = faults::refusal_of(p, &*shown, e);
+    if k != 0 {
+        return calls::answer(k, p, 0);
+    }
+    blank(s, &mut *work);
+    let q = p.with_middle(h.middle);
+    let o = game::play_event(q, e, mines, &mut *shown, &mut *bits, &mut *work);
+    let z = o.position;
+    calls::answer(o.answer, z, 0)
+}
 
 // What the first event is refused with, or 0: a row that is refused there has touched nothing.
 fn first_refusal(p: Position, events: &[u8], shown: &[u8]) -> u16
@@ -29,7 +75,13 @@ fn first_refusal(p: Position, events: &[u8], shown: &[u8]) -> u16
     if events.len() < 3 {
         return 0;
     }
-    game::refusal_on(p, events[0], events[1], events[2], shown)
+    let s = p.settings;
+    let Decoded::At(x) = mouse::decode(s, events[1], events[2]) else {
+        return 30;
+    };
+    let h = mouse::resolve_at(p, events[0], x);
+    let e = h.event;
+    faults::refusal_of(p, shown, e)
 }
 
 // 0, or the number of the refused event.
@@ -53,16 +105,16 @@ pub fn step_flow(
 ) -> Answer
     ensures { λ r. ⌜ StepFlowIs p (now (events .entry)) (now (mines .entry)) (now (shown .entry)) (now (bits .entry)) (now (work .entry)) r (now (shown .exit)) (now (bits .exit)) (now (work .exit)) ⌝ }
 {
-    let n = refusals::flow_refusal(p, events, mines, &*shown, &*bits, &*work);
-    if n != 0 {
-        return calls::answer(n, p, 0);
+    let refused = refusals::flow_refusal(p, events, mines, &*shown, &*bits, &*work);
+    if refused != 0 {
+        return calls::answer(refused, p, 0);
     }
-    let k = first_refusal(p, events, &*shown);
-    if k != 0 {
-        return calls::answer(k, p, 0);
+    let first = first_refusal(p, events, &*shown);
+    if first != 0 {
+        return calls::answer(first, p, 0);
     }
     let s = p.settings;
-    stepping::blank(s, &mut *work);
+    blank(s, &mut *work);
     let o = flows::flow(p, events, mines, &mut *shown, &mut *bits, &mut *work);
     let v = flow_number(o.answer);
     let q = o.position;

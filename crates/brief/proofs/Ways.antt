@@ -1,11 +1,11 @@
 -- One equation for each brief event, what it asks of the rule's own function, and what an event that is not brief leaves.
 use mathlib.Core.Path.{_≡_, _∙_, refl, sym, ap, subst}
-use mathlib.Core.Bool.{Bool, true, false, not, _&&_, _||_, true≢false}
+use mathlib.Core.Bool.{Bool, true, false, not, _||_, true≢false}
 use mathlib.Core.List.{List}
 use Prim.Native.Nat.{ℕ, _*_, _/_, _<_}
 use native.Mathlib.Omega.{arith}
-use borrow.Author.Tests.{eq-eqb, ne-eqb, ltb-true, not-false}
-use lib.Dec.{eqb, ltb}
+use borrow.Author.Tests.{eq-eqb, ne-eqb}
+use lib.Dec.{eqb}
 use lib.ListN.{length, getD}
 use lib.IntN.{ℤ}
 use Rattle.rules.specs.declared.Position.{Position}
@@ -22,14 +22,13 @@ use Rattle.rules.specs.Mouse.{moved, bothDown}
 use Rattle.rules.specs.Step.{move, seenAt, leftAt, rightAt, chordFrom, playLc, playLr, playRc, playRr, eventOf, playing}
 use Rattle.cells.specs.Ground.{Mined, Valued}
 use Rattle.cells.specs.Contracts.{RoomAt}
-use Rattle.cells.proofs.Words.{and-left, and-right}
 use Rattle.cells.proofs.Grid.{cell-lt}
 use Rattle.clicks.specs.Parts.{NumberAt}
 use Rattle.keep.specs.Kept.{LawfulAt, Inside}
 use Rattle.keep.proofs.Able.{lawful-room}
 use Rattle.brief.specs.declared.Brief.{Brief}
 use Rattle.brief.specs.declared.Brief.the-variants.{Done, Other}
-use Rattle.brief.specs.Briefly.{Plainly, Taken, Briefly}
+use Rattle.brief.specs.Briefly.{Plainly}
 
 pub on-board : (s : Settings) (row column : ℕ) → Inside s (Cell row column) → cellOf (s .columns) row column < s .rows * s .columns
 on-board s row column o = cell-lt (s .rows) (s .columns) row column (o .0) (o .1)
@@ -130,12 +129,12 @@ module _ (B : List ℤ) (row column : ℕ) (p up : Position) (shown : List ℕ) 
 
 -- ---- by the code -----------------------------------------------------------------------------------------------------------------------
 
-module _ (B : List ℤ) (code row column : ℕ) (p : Position) (shown bits : List ℕ) where
-  pub briefly-by : (f : Desk → Play) (r : Brief) (shown′ bits′ : List ℕ) → Taken p code row column → f (desk p shown bits) ≡ playing B (eventOf code (Cell row column)) (desk p shown bits)
-      → Plainly f p shown bits r shown′ bits′ → Briefly B code row column p shown bits r shown′ bits′
-  briefly-by f (Done o) shown′ bits′ t e h = (t, h ∙ e)
-  briefly-by f Other shown′ bits′ t e h = h
+pub plainly-by : (f g : Desk → Play) (p : Position) (shown bits : List ℕ) (r : Brief) (shown′ bits′ : List ℕ) → f (desk p shown bits) ≡ g (desk p shown bits)
+    → Plainly f p shown bits r shown′ bits′ → Plainly g p shown bits r shown′ bits′
+plainly-by f g p shown bits (Done o) shown′ bits′ e h = h ∙ e
+plainly-by f g p shown bits Other shown′ bits′ e h = h
 
+module _ (B : List ℤ) (code row column : ℕ) (p : Position) (shown bits : List ℕ) where
   pub code-lc : code ≡ 0 → playLc (Cell row column) (desk p shown bits) ≡ playing B (eventOf code (Cell row column)) (desk p shown bits)
   unfolding playing eventOf
   code-lc e = rw e refl
@@ -156,15 +155,6 @@ module _ (B : List ℤ) (code row column : ℕ) (p : Position) (shown bits : Lis
   unfolding playLc
   lc-turns o e = rw e refl
 
-pub on-board-by : (s : Settings) (row column : ℕ) (w : Bool) → w ≡ (ltb row (s .rows) && ltb column (s .columns)) → not w ≡ false → Inside s (Cell row column)
-on-board-by s row column w e n =
-    let t = sym e ∙ not-false w n in
-    (ltb-true row (s .rows) (and-left _ _ t), ltb-true column (s .columns) (and-right (ltb row (s .rows)) _ t))
-
-pub taken : (p : Position) (code row column : ℕ) (b w : Bool) → b ≡ (isPlaying (p .game) && ltb code 4) → not b ≡ false → p .events < 65535
-    → w ≡ (ltb row (p .settings .rows) && ltb column (p .settings .columns)) → not w ≡ false → Taken p code row column
-taken p code row column b w e n few i m = record { button = sym e ∙ not-false b n; few = few; cell = on-board-by (p .settings) row column w i m }
-
 -- a button's code that is none of the first three
-pub last-code : (g : Bool) (code : ℕ) → (g && ltb code 4) ≡ true → (code ≡ 0 → ⊥) → (code ≡ 1 → ⊥) → (code ≡ 2 → ⊥) → code ≡ 3
-last-code g code t a b c = let l = ltb-true code 4 (and-right g _ t) in omega arith
+pub last-code : (code : ℕ) → code < 4 → (code ≡ 0 → ⊥) → (code ≡ 1 → ⊥) → (code ≡ 2 → ⊥) → code ≡ 3
+last-code code l a b c = omega arith

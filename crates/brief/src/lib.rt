@@ -4,13 +4,13 @@
 ghost use mathlib.Core.Path.{_≡_};
 ghost use mathlib.Core.Bool.{_&&_};
 ghost use mathlib.Core.List.{List};
-ghost use Prim.Native.Nat.{ℕ, _*_};
+ghost use Prim.Native.Nat.{ℕ, _*_, _<_};
 ghost use lib.Dec.{ltb};
 ghost use lib.ListN.{length};
 ghost use lib.IntN.{ℤ};
 ghost use Rattle.rules.specs.States.{isPlaying};
 ghost use Rattle.rules.specs.Clicks.{desk};
-ghost use Rattle.rules.specs.Step.{playLr, playRc, playRr};
+ghost use Rattle.rules.specs.Step.{playLr, playRc, playRr, playing, eventOf};
 ghost use Rattle.rules.specs.declared.Pointer.the-variants.{Cell};
 ghost use Rattle.cells.specs.Ground.{Mined};
 ghost use Rattle.cells.specs.Contracts.{RoomAt};
@@ -18,6 +18,7 @@ ghost use Rattle.keep.specs.Kept.{LawfulAt, Inside};
 ghost use Rattle.brief.specs.Briefly.{Plainly, Briefly};
 use rules::GameState;
 use rules::Played;
+use rules::Pointer;
 use rules::Position;
 
 // A brief event, played; or any other, not played yet.
@@ -113,8 +114,8 @@ fn release_left(p: Position, row: u8, column: u8, mines: &[i8], shown: &mut [u8]
     Brief::Done(o)
 }
 
-// The event, if it is brief; the caller counts it.
-pub fn play_brief(
+// A button event on a cell while Playing, by its code.
+fn button(
     p: Position,
     code: u8,
     row: u8,
@@ -124,18 +125,10 @@ pub fn play_brief(
     bits: &mut [u8],
 ) -> Brief
     requires { ⌜ LawfulAt (now mines) (desk p (now shown) (now bits)) ⌝ }
-    ensures { λ r. ⌜ Briefly (now (mines .entry)) code row column p (now (shown .entry)) (now (bits .entry)) r (now (shown .exit)) (now (bits .exit)) ⌝ }
+    requires { ⌜ Inside (p .settings) (Cell row column) ⌝ }
+    requires { ⌜ code < 4 ⌝ }
+    ensures { λ r. ⌜ Plainly (playing (now (mines .entry)) (eventOf code (Cell row column))) p (now (shown .entry)) (now (bits .entry)) r (now (shown .exit)) (now (bits .exit)) ⌝ }
 {
-    let game = p.game;
-    if !is_button(game, code) {
-        return Brief::Other;
-    }
-    if 65535 <= p.events {
-        return Brief::Other;
-    }
-    if !mouse::within(row, p.settings.rows, column, p.settings.columns) {
-        return Brief::Other;
-    }
     if code == 0 {
         let o = mouse::moves(0, p);
         return Brief::Done(o);
@@ -147,4 +140,52 @@ pub fn play_brief(
         return press_right(p, row, column, mines, shown, bits);
     }
     release_right(p)
+}
+
+// An event on a cell: a button while Playing, or a move, which changes nothing in any game state.
+fn on_cell(
+    p: Position,
+    code: u8,
+    row: u8,
+    column: u8,
+    mines: &[i8],
+    shown: &mut [u8],
+    bits: &mut [u8],
+) -> Brief
+    requires { ⌜ LawfulAt (now mines) (desk p (now shown) (now bits)) ⌝ }
+    requires { ⌜ Inside (p .settings) (Cell row column) ⌝ }
+    requires { ⌜ p .events < 65535 ⌝ }
+    ensures { λ r. ⌜ Briefly (now (mines .entry)) code (Cell row column) p (now (shown .entry)) (now (bits .entry)) r (now (shown .exit)) (now (bits .exit)) ⌝ }
+{
+    let game = p.game;
+    if is_button(game, code) {
+        return button(p, code, row, column, mines, shown, bits);
+    }
+    if code == 4 {
+        return Brief::Done(Played {
+            answer: 0,
+            position: p,
+        });
+    }
+    Brief::Other
+}
+
+// The event at a good pointer that there is room to count, if it is brief; the caller counts it.
+pub fn play_brief(
+    p: Position,
+    code: u8,
+    x: Pointer,
+    mines: &[i8],
+    shown: &mut [u8],
+    bits: &mut [u8],
+) -> Brief
+    requires { ⌜ LawfulAt (now mines) (desk p (now shown) (now bits)) ⌝ }
+    requires { ⌜ Inside (p .settings) x ⌝ }
+    requires { ⌜ p .events < 65535 ⌝ }
+    ensures { λ r. ⌜ Briefly (now (mines .entry)) code x p (now (shown .entry)) (now (bits .entry)) r (now (shown .exit)) (now (bits .exit)) ⌝ }
+{
+    match x {
+        Pointer::Cell { row, column } => on_cell(p, code, row, column, mines, shown, bits),
+        Pointer::Off => Brief::Other,
+    }
 }

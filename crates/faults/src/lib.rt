@@ -1,14 +1,14 @@
-// What an event whose pointer is good is refused with, 31 to 33.
+// What a plain event whose pointer is good is refused with, 31 to 33.
 // Nothing here writes. The contracts cite rules' Step.
 ghost use mathlib.Core.Path.{_≡_};
 ghost use mathlib.Core.Bool.{true, false, not, _||_};
 ghost use mathlib.Core.List.{List};
 ghost use Prim.Native.Nat.{ℕ};
-ghost use lib.Dec.{eqb};
+ghost use lib.Dec.{eqb, leb, ltb};
 ghost use Rattle.rules.specs.Words.{unless};
 ghost use Rattle.rules.specs.Clicks.{desk};
 ghost use Rattle.rules.specs.Mouse.{bothDown};
-ghost use Rattle.rules.specs.Step.{seenAt, errsPlaying, errsPreFlaging, isUnknown, badPreFlag, eventRefusal, refusalAt};
+ghost use Rattle.rules.specs.Step.{seenAt, errsPlaying, errsPreFlaging, isUnknown, badPreFlag, eventRefusal};
 use rules::Event;
 use rules::GameState;
 use rules::Pointer;
@@ -128,9 +128,10 @@ fn first_of(bad: bool, errs: bool) -> u16
 }
 
 // 32 in Ready or PreFlaging, then 33; neither in Win or Loss.
-fn event_refusal(g: GameState, p: Position, shown: &[u8], e: Event) -> u16
-    ensures { λ r. ⌜ ((bits : List ℕ) → r ≡ eventRefusal g e (desk p (now (shown .entry)) bits)) ⌝ }
+pub fn event_refusal(p: Position, shown: &[u8], e: Event) -> u16
+    ensures { λ r. ⌜ ((bits : List ℕ) → r ≡ eventRefusal (p .game) e (desk p (now (shown .entry)) bits)) ⌝ }
 {
+    let g = p.game;
     match g {
         GameState::Ready => {
             let bad = bad_pre_flag(p, shown, e);
@@ -155,14 +156,19 @@ fn event_refusal(g: GameState, p: Position, shown: &[u8], e: Event) -> u16
     }
 }
 
-// 31, 32 and 33 of an event whose pointer is good; 0 for an event that is accepted.
-pub fn refusal_at(p: Position, shown: &[u8], code: u8, x: Pointer) -> u16
-    ensures { λ r. ⌜ ((bits : List ℕ) → r ≡ refusalAt code x (desk p (now (shown .entry)) bits)) ⌝ }
+// 31: 65,535 events were accepted.
+pub fn is_full(p: Position) -> bool
+    ensures { λ r. ⌜ r ≡ leb 65535 (p .events) ⌝ }
 {
-    if 65535 <= p.events {
+    65535 <= p.events
+}
+
+// 31, then 32 and 33; 0 for an event that is accepted.
+pub fn refusal_of(p: Position, shown: &[u8], e: Event) -> u16
+    ensures { λ r. ⌜ ((bits : List ℕ) → r ≡ unless 31 (ltb (p .events) 65535) (eventRefusal (p .game) e (desk p (now (shown .entry)) bits))) ⌝ }
+{
+    if is_full(p) {
         return 31;
     }
-    let e = mouse::plain(p, code, x);
-    let g = p.game;
-    event_refusal(g, p, shown, e)
+    event_refusal(p, shown, e)
 }

@@ -1,2 +1,3 @@
-pub mod Runs
 pub mod Briefs
+pub mod Flows
+pub mod Runs

@@ -17,11 +17,12 @@ use Rattle.rules.specs.declared.Decoded.{Decoded}
 use Rattle.rules.specs.declared.Decoded.the-variants.{At, Bad}
 use Rattle.rules.specs.States.{withEvents}
 use Rattle.rules.specs.Clicks.{desk, done}
-use Rattle.rules.specs.Step.{pointerOf, stepOn}
+use Rattle.rules.specs.Step.{pointerOf}
 use Rattle.cells.proofs.Words.{and-left, and-right}
 use Rattle.flows.specs.Runs.{isAt, moveAt, Moves}
-use Rattle.game.proofs.Steps.{move-counts}
-use Rattle.game.proofs.Flows.{Flowing, eventAt, flow-on}
+use Rattle.brief.proofs.Heard.{move-steps}
+use Rattle.game.proofs.Steps.{step-decoded}
+use Rattle.flows.proofs.Flows.{Flowing, eventAt, flow-on}
 
 module _ (s : Settings) (events : List ℕ) where
   -- ---- one move ------------------------------------------------------------------------------------------------------------------------
@@ -87,9 +88,8 @@ module _ (B : List ℤ) (events : List ℕ) (at₀ : ℕ) (o₀ : Played) (shown
 
       played : done 0 (desk (withEvents (o .position) (o .position .events + 1)) shown bits) ≡ eventAt B events at (desk (o .position) shown bits)
       played =
-          move-counts B row column (o .position) shown bits (pointerOf (o .position .settings) row column) refl (x .0) (x .1)
-          (withEvents (o .position) (o .position .events + 1)) l refl
-          ∙ ap (λ (c : ℕ). stepOn B c row column (desk (o .position) shown bits)) (sym code)
+          move-steps B (getD events at 0) (x .0) (o .position) shown bits l code
+          ∙ sym (step-decoded B (getD events at 0) row column (o .position) shown bits (pointerOf (o .position .settings) row column) refl (x .0) (x .1))
 
   pub flow-moves : (n at : ℕ) (o : Played) → Moves (o .position .settings) events at (suc n) → o .position .events + suc n ≤ 65535
       → Flowing B events at₀ o₀ shown₀ bits₀ work₀ at o shown bits work → Flowing B events at₀ o₀ shown₀ bits₀ work₀ (at + 3 * suc n) (counted (o .position) (suc n)) shown bits work

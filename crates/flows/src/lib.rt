@@ -1,24 +1,25 @@
-// A row of events on a lawful position: moves are counted together, brief events are played in the loop.
+// A row of events on a lawful position: its next event, for whoever plays one, and the row whole, with its moves counted together.
 // The contracts cite rules' Calls, `game`'s specs/Core and specs/Runs; `keep` gives that every step leaves what the next one asks.
 ghost use mathlib.Core.Path.{_≡_};
 ghost use mathlib.Core.Bool.{true};
 ghost use Prim.Native.Nat.{_+_, _%_, _≤_};
 ghost use lib.ListN.{length, getD};
+ghost use Rattle.rules.specs.States.{withEvents};
 ghost use Rattle.rules.specs.Clicks.{desk};
 ghost use Rattle.rules.specs.Step.{stepOn};
 ghost use Rattle.keep.specs.Kept.{LawfulAt};
 ghost use Rattle.cells.specs.Contracts.{Plays};
-ghost use Rattle.game.specs.Core.{Blank, flowOn};
-ghost use Rattle.flows.specs.Runs.{moveAt, Moves};
+ghost use Rattle.game.specs.Core.{Blank};
+ghost use Rattle.flows.specs.Runs.{flowOn, moveAt, Moves};
 use brief::Brief;
 use rules::Decoded;
 use rules::Played;
 use rules::Position;
 use rules::Settings;
 
-// The event of three bytes that starts at a place of the row. What is brief is played here, so that the loop keeps its position at hand; any
-// other event gets a copy, since a position that is handed on must lie in memory.
-fn next_event(
+// The event of three bytes that starts at a place of the row: 30, 31, and what is brief is played here, so that a loop keeps its position at
+// hand; any other event gets a copy, since a position that is handed on must lie in memory.
+pub fn next_event(
     p: Position,
     events: &[u8],
     at: usize,
@@ -35,28 +36,27 @@ fn next_event(
     let code = events[at];
     let row = events[at + 1];
     let column = events[at + 2];
-    match brief::play_brief(p, code, row, column, mines, &mut *shown, &mut *bits) {
+    let s = p.settings;
+    let Decoded::At(x) = mouse::decode(s, row, column) else {
+        return Played {
+            answer: 30,
+            position: p,
+        };
+    };
+    if faults::is_full(p) {
+        return Played {
+            answer: 31,
+            position: p,
+        };
+    }
+    match brief::play_brief(p, code, x, mines, &mut *shown, &mut *bits) {
         Brief::Done(o) => {
             let n = p.events + 1;
-            let q = o.position;
-            let position = q.with_events(n);
-            Played {
-                answer: o.answer,
-                position,
-            }
+            game::counted(o, n)
         }
         Brief::Other => {
             let q = p;
-            game::step_on(
-                q,
-                code,
-                row,
-                column,
-                mines,
-                &mut *shown,
-                &mut *bits,
-                &mut *work,
-            )
+            game::step_at(q, code, x, mines, &mut *shown, &mut *bits, &mut *work)
         }
     }
 }
@@ -97,6 +97,19 @@ fn moves(s: Settings, events: &[u8], from: usize, most: u32) -> u32
     n
 }
 
+// Moves, most of what a recording holds: they change the count of events alone, in every game state.
+fn count_moves(p: Position, n: u32) -> Played
+    requires { ⌜ p .events + n ≤ 65535 ⌝ }
+    ensures { λ r. ⌜ r ≡ record { answer = 0; position = withEvents p (p .events + n) } ⌝ }
+{
+    let k = p.events + n;
+    let q = p.with_events(k);
+    Played {
+        answer: 0,
+        position: q,
+    }
+}
+
 // A row of whole events, up to the first refused one; the answer is that of the last event played, 0 where there is none.
 pub fn flow(
     p: Position,
@@ -120,7 +133,7 @@ pub fn flow(
         let q = o.position;
         let n = moves(q.settings, events, at, 65535 - q.events);
         if n != 0 {
-            o = game::count_moves(q, n);
+            o = count_moves(q, n);
             at += 3 * (n as usize);
         } else {
             o = next_event(q, events, at, mines, &mut *shown, &mut *bits, &mut *work);

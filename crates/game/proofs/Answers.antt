@@ -18,8 +18,9 @@ use Rattle.rules.specs.Opening.{Opened, closedAt}
 use Rattle.rules.specs.States.{withDce}
 use Rattle.rules.specs.Clicks.{Desk, Play, done, on, rowsOf, columnsOf, chordIsUseful, isWon, ended, leftOpens, leftClick, takeBack, chordOpens, performChord}
 use Rattle.rules.specs.Passes.{addDouble, rightClick, chordingClick}
-use Rattle.rules.specs.Step.{mouse, onCell, seenAt, errsPlaying, errsPreFlaging, isUnknown, badPreFlag, leftAt, rightAt, chordAt, chordFrom, playLc, playLr, playRc, playRr, playing, preFlag, readyLc, readyRc, ready, preLeft, preLr, clearedIf, preCell, preRight, preRc, preFlaging, byGame, eventRefusal, plainOf, refusalAt, playAt}
+use Rattle.rules.specs.Step.{mouse, onCell, seenAt, errsPlaying, errsPreFlaging, isUnknown, badPreFlag, leftAt, rightAt, chordAt, chordFrom, playLc, playLr, playRc, playRr, playing, preFlag, readyLc, readyRc, ready, preLeft, preLr, clearedIf, preCell, preRight, preRc, preFlaging, byGame, eventRefusal, playAt}
 use Rattle.cells.proofs.Words.{pick-both}
+use Rattle.game.specs.Core.{playEvent}
 
 -- an answer of the game
 pub record Small (o : Play) : Type 0 where
@@ -181,6 +182,9 @@ module _ (B : List ℤ) where
   event-small Loss e d = record { small = omega arith }
 
   -- an event that is played answers 0 to 4
+  pub event-answers : (e : Event) (d : Desk) → Small (playEvent B e d)
+  event-answers e d = record { small = event-small (d .position .game) e d .small }
+
   pub play-answers : (code : ℕ) (x : Pointer) (d : Desk) → Small (playAt B code x d)
   unfolding playAt
   play-answers code x d = record { small = event-small _ _ _ .small }
@@ -202,9 +206,9 @@ event-refuses Playing e d = unless-refuses 33 (not (errsPlaying (mouse d) e)) _ 
 event-refuses Win e d = none refl
 event-refuses Loss e d = none refl
 
-pub refusal-refuses : (code : ℕ) (x : Pointer) (d : Desk) → Refuses (refusalAt code x d)
-unfolding refusalAt
-refusal-refuses code x d = unless-refuses 31 (ltb (d .position .events) 65535) _ (omega arith) (event-refuses (d .position .game) (plainOf code x d) d)
+-- by 31 to 33
+pub refusal-refuses : (e : Event) (d : Desk) → Refuses (unless 31 (ltb (d .position .events) 65535) (eventRefusal (d .position .game) e d))
+refusal-refuses e d = unless-refuses 31 (ltb (d .position .events) 65535) _ (omega arith) (event-refuses (d .position .game) e d)
 
 pub refused-from : (n : ℕ) → Refuses n → (n ≡ 0 → ⊥) → 30 ≤ n
 refused-from n (none e) h = absurd (h e)

@@ -19,7 +19,8 @@ use Rattle.keep.proofs.Step.{plays-follow}
 use Rattle.book.specs.Written.{Writable}
 use Rattle.book.proofs.Accepting.{events-part}
 use Rattle.book.proofs.Writing.{accepted-writable}
-use Rattle.game.specs.Core.{Blank, flowOn}
+use Rattle.game.specs.Core.{Blank}
+use Rattle.flows.specs.Runs.{flowOn}
 use Rattle.writing.specs.Put.{Put, PutWithin}
 use Rattle.writing.proofs.Putting.{put-then, put-as, put-length}
 use Rattle.text.specs.Rows.{RowsFit}

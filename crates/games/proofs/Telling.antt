@@ -17,7 +17,7 @@ use Rattle.rules.specs.Calls.{plays}
 use Rattle.rules.specs.Printout.{eventLine, eventLines}
 use Rattle.keep.specs.Kept.{LawfulAt}
 use Rattle.cells.specs.Contracts.{Plays}
-use Rattle.game.proofs.Flows.{Flowing, held, three, eventAt, flow-on, flow-refused, flow-cells, flow-bytes, flow-start, flow-end, event-left}
+use Rattle.flows.proofs.Flows.{Flowing, held, three, eventAt, flow-on, flow-refused, flow-cells, flow-bytes, flow-start, flow-end, event-left}
 use Rattle.writing.specs.Put.{PutWithin}
 use Rattle.writing.proofs.Putting.{Leads, leads-start, leads-turn, leads-done}
 use Rattle.games.specs.Events.{EventsFit, EventsPrinted}

@@ -10,7 +10,7 @@ use Rattle.rules.specs.Lent.{workAfter}
 use Rattle.rules.specs.Clicks.{desk}
 use Rattle.rules.specs.Calls.{plays, cellsIn}
 use Rattle.rules.specs.Printout.{eventLines, bookBoard, printoutOf}
-use Rattle.game.specs.Core.{flowOn}
+use Rattle.flows.specs.Runs.{flowOn}
 use Rattle.writing.specs.Put.{Put, PutWithin}
 use Rattle.printing.specs.Boards.{bookEnd}
 use Rattle.games.specs.declared.Told.{Told}

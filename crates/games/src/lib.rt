@@ -44,7 +44,7 @@ fn play_events(
     };
     while k < events.len() {
         let q = o.position;
-        o = game::step_from(q, events, k, mines, &mut *shown, &mut *bits, &mut *work);
+        o = flows::next_event(q, events, k, mines, &mut *shown, &mut *bits, &mut *work);
         place = printing::put_play(&mut *out, place, number, o);
         if 20 <= o.answer {
             let refused = o.position;

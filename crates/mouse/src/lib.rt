@@ -92,7 +92,7 @@ fn right_is_held(m: u8) -> bool
 }
 
 // l, r and m as plain codes; every other code stays.
-pub fn resolve(code: u8, m: u8, middle: bool) -> u8
+fn resolve(code: u8, m: u8, middle: bool) -> u8
     ensures { λ r. ⌜ r ≡ resolved code m middle ⌝ }
 {
     if code == 9 {
@@ -109,7 +109,7 @@ pub fn resolve(code: u8, m: u8, middle: bool) -> u8
 }
 
 // m flips the middle flag.
-pub fn flip(code: u8, middle: bool) -> bool
+fn flip(code: u8, middle: bool) -> bool
     ensures { λ r. ⌜ r ≡ flipped code middle ⌝ }
 {
     if code == 11 {
@@ -158,7 +158,7 @@ pub fn seen_at(p: Position, shown: &[u8], x: Pointer) -> u8
     }
 }
 
-pub fn within(row: u8, rows: u8, column: u8, columns: u8) -> bool
+fn within(row: u8, rows: u8, column: u8, columns: u8) -> bool
     ensures { λ r. ⌜ r ≡ (ltb row rows && ltb column columns) ⌝ }
 {
     if row < rows {
@@ -190,7 +190,7 @@ pub fn decode(s: Settings, row: u8, column: u8) -> Decoded
 }
 
 // The event of a plain code.
-pub fn event_of(code: u8, x: Pointer) -> Event
+fn event_of(code: u8, x: Pointer) -> Event
     ensures { λ r. ⌜ r ≡ eventOf code x ⌝ }
 {
     match code {
@@ -208,11 +208,25 @@ pub fn event_of(code: u8, x: Pointer) -> Event
 }
 
 // The plain event that a code and a pointer are at a position.
-pub fn plain(p: Position, code: u8, x: Pointer) -> Event
+fn plain(p: Position, code: u8, x: Pointer) -> Event
     ensures { λ r. ⌜ ((shown bits : List ℕ) → r ≡ plainOf code x (desk p shown bits)) ⌝ }
 {
     let mouse = p.mouse;
     let m = rules::mouse_number(mouse);
     let c = resolve(code, m, p.middle);
     event_of(c, x)
+}
+
+// An event with l, r and m resolved: the plain event, and the middle flag, which m flips.
+pub struct Resolved {
+    pub event: Event,
+    pub middle: bool,
+}
+
+pub fn resolve_at(p: Position, code: u8, x: Pointer) -> Resolved
+    ensures { λ r. ⌜ ((shown bits : List ℕ) → r ≡ record { event = plainOf code x (desk p shown bits); middle = flipped code (p .middle) }) ⌝ }
+{
+    let event = plain(p, code, x);
+    let middle = flip(code, p.middle);
+    Resolved { event, middle }
 }

@@ -1,4 +1,4 @@
--- `mouse::bad_pre_flag` meets its contract.
+-- `faults::bad_pre_flag` meets its contract.
 use borrow.Author.Needs.{needs}
 use Rattle.rules.specs.Step.{badPreFlag}
 use Rattle.faults.proofs.bad_pre_flag.Statement.{statement}

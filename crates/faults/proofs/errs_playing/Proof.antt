@@ -1,4 +1,4 @@
--- `mouse::errs_playing` meets its contract.
+-- `faults::errs_playing` meets its contract.
 use borrow.Author.Needs.{needs}
 use Rattle.rules.specs.Step.{errsPlaying}
 use Rattle.faults.proofs.errs_playing.Statement.{statement}

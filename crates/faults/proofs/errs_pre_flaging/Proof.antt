@@ -1,4 +1,4 @@
--- `mouse::errs_pre_flaging` meets its contract.
+-- `faults::errs_pre_flaging` meets its contract.
 use borrow.Author.Needs.{needs}
 use Rattle.rules.specs.Step.{errsPreFlaging}
 use Rattle.faults.proofs.errs_pre_flaging.Statement.{statement}

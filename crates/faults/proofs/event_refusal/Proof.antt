@@ -1,4 +1,4 @@
--- `mouse::event_refusal` meets its contract.
+-- `faults::event_refusal` meets its contract.
 use borrow.Author.Needs.{needs}
 use Rattle.rules.specs.Step.{eventRefusal}
 use Rattle.faults.proofs.event_refusal.Statement.{statement}

@@ -1,4 +1,4 @@
--- `mouse::not_closed` meets its contract.
+-- `faults::not_closed` meets its contract.
 use mathlib.Core.Path.{ap}
 use Prim.Native.Nat.{ℕ}
 use mathlib.Core.Bool.{not}

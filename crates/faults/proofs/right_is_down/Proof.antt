@@ -1,4 +1,4 @@
--- `mouse::right_is_down` meets its contract.
+-- `faults::right_is_down` meets its contract.
 use borrow.Author.Tests.{eq-eqb, ne-eqb}
 use borrow.Author.Needs.{needs}
 use Rattle.faults.proofs.right_is_down.Statement.{statement}

@@ -1,9 +1,9 @@
--- `game::flow` meets its contract.
+-- `flows::flow` meets its contract.
 use mathlib.Core.Path.{ap}
 use Prim.Native.Nat.{_-_}
 use native.Mathlib.Omega.{arith}
 use lib.ListN.{length}
-use Rattle.game.proofs.Flows.{Flowing, flow-on, flow-refused, flow-same, flow-cells, flow-bytes, event-left, flow-start, flow-end, blank-kept}
+use Rattle.flows.proofs.Flows.{Flowing, flow-on, flow-refused, flow-same, flow-cells, flow-bytes, event-left, flow-start, flow-end, blank-kept}
 use Rattle.flows.proofs.Runs.{flow-run}
 use Rattle.flows.proofs.flow.Statement.{statement}
 use Rattle.flows.proofs.flow.Tie as tie

@@ -1,4 +1,4 @@
--- `game::is_move` meets its contract.
+-- `flows::is_move` meets its contract.
 use Rattle.flows.proofs.Runs.{other-event, move-is}
 use borrow.Author.Needs.{needs}
 use Rattle.flows.proofs.is_move.Statement.{statement}

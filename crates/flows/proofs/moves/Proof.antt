@@ -1,4 +1,4 @@
--- `game::moves` meets its contract.
+-- `flows::moves` meets its contract.
 use borrow.Author.Tests.{not-false}
 use mathlib.Core.Path.{sym, _∙_}
 use mathlib.Core.Path.{_≡_}
@@ -6,7 +6,7 @@ use Prim.Native.Nat.{_+_, _*_, _-_, _≤_}
 use native.Mathlib.Omega.{arith}
 use lib.ListN.{length}
 use Rattle.flows.specs.Runs.{Moves}
-use Rattle.game.proofs.Flows.{event-left}
+use Rattle.flows.proofs.Flows.{event-left}
 use Rattle.flows.proofs.Runs.{moves-none, moves-more}
 use Rattle.flows.proofs.moves.Statement.{statement}
 use Rattle.flows.proofs.moves.Tie as tie
