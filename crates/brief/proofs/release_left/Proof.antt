@@ -6,69 +6,46 @@ use Rattle.brief.proofs.Ways.{on-board, number-asks, lr-left}
 use borrow.Author.Needs.{needs}
 use Rattle.brief.proofs.release_left.Statement.{statement}
 use Rattle.brief.proofs.release_left.Tie as tie
-use Rattle.brief.proofs.release_left.Reads as reads
-use Rattle.brief.proofs.release_left.Lts as lts
-use Rattle.cells.proofs.face_at.Reads as face-at-reads
-use Rattle.cells.proofs.wide.Reads as wide-reads
-use Rattle.clicks.proofs.is_number.Reads as is-number-reads
-use Rattle.clicks.proofs.left_number.Reads as left-number-reads
-use Rattle.mouse.proofs.cell.Reads as cell-reads
-use Rattle.mouse.proofs.moved.Reads as moved-reads
-use Rattle.rules.proofs.mouse_number.Reads as mouse-number-reads
 
--- src/lib.rt:98:9
 mouse-number-requires : tie.Need-mouse-number-requires
 mouse-number-requires c κs = search needs
 
--- src/lib.rt:100:9
 returns : tie.Need-returns
 returns c = search needs
 
--- src/lib.rt:102:9
 cell-requires : tie.Need-cell-requires
 cell-requires c κs = search needs
 
--- src/lib.rt:103:8
 slice-read-if2 : tie.Need-slice-read-if2
 slice-read-if2 c = let b = c .before .before .before .before .before .pre .1 .0 in let i = on-board (c .before .before .before .before .before .args .p .settings) (c .before .before .before .before .before .args .row) (c .before .before .before .before .before .args .column) (c .before .before .before .before .before .pre .1 .1 .0) in let e = c .before .cell .ensures in omega arith
 
--- src/lib.rt:104:9
 returns-2 : tie.Need-returns-2
 returns-2 c = search needs
 
--- src/lib.rt:106:9
 face-at-requires : tie.Need-face-at-requires
 face-at-requires c κs = let b = c .before .before .before .before .before .before .pre .0 .long in let i = on-board (c .before .before .before .before .before .before .args .p .settings) (c .before .before .before .before .before .before .args .row) (c .before .before .before .before .before .before .args .column) (c .before .before .before .before .before .before .pre .1 .1 .0) in let e = c .before .before .cell .ensures in (omega arith, c .before .before .before .before .before .before .pre .0 .valued)
 
--- src/lib.rt:107:9
 is-number-requires : tie.Need-is-number-requires
 is-number-requires c κs = search needs
 
--- src/lib.rt:108:9
 returns-3 : tie.Need-returns-3
 returns-3 c = search needs
 
--- src/lib.rt:110:9
 moved-requires : tie.Need-moved-requires
 moved-requires c κs = search needs
 
--- src/lib.rt:111:9
 wide-requires : tie.Need-wide-requires
 wide-requires c κs = search needs
 
--- src/lib.rt:112:9
 wide-requires-2 : tie.Need-wide-requires-2
 wide-requires-2 c κs = search needs
 
--- src/lib.rt:113:9
 left-number-requires : tie.Need-left-number-requires
 left-number-requires c κs = number-asks _ (c .before .before .before .before .before .before .before .before .before .before .before .before .before .args .row) (c .before .before .before .before .before .before .before .before .before .before .before .before .before .args .column) (c .before .before .before .before .before .before .before .before .before .before .before .before .before .args .p) _ _ _ _ (c .before .before .before .moved .ensures) (c .before .before .wide .ensures .0) (c .before .wide2 .ensures .0) (c .before .before .before .before .before .before .before .before .before .before .before .before .before .pre .0) (c .before .before .before .before .before .before .before .before .before .before .before .before .before .pre .1 .0) (c .before .before .before .before .before .before .before .before .before .before .before .before .before .pre .1 .1 .0) (c .before .before .before .before .before .before .before .before .before .before .before .before .before .pre .1 .1 .1) _ _ (c .before .before .before .before .before .before .before .before .before .cell .ensures) (c .before .before .before .before .before .before .before .if2 .left) (c .before .before .before .before .before .before .face-at .ensures) (c .before .before .before .before .before .is-number .ensures .yes (not-false _ (c .before .before .before .before .if3 .left)))
 
--- src/lib.rt:90:1
 same-length : tie.Need-same-length
 same-length c = search needs
 
--- src/lib.rt:90:1
 returns-4 : tie.Need-returns-4
 returns-4 c = λ bits. c .before .before .left-number .ensures bits ∙ lr-left _ (c .before .before .before .before .before .before .before .before .before .before .before .before .before .before .before .before .args .row) (c .before .before .before .before .before .before .before .before .before .before .before .before .before .before .before .before .args .column) (c .before .before .before .before .before .before .before .before .before .before .before .before .before .before .before .before .args .p) _ _ _ _ (c .before .before .before .before .before .before .moved .ensures) (c .before .before .before .before .before .wide .ensures .0) (c .before .before .before .before .wide2 .ensures .0) _ (c .before .before .before .before .before .before .before .before .before .before .before .before .before .before .mouse-number .ensures) (let z = c .before .before .before .before .before .before .before .before .before .before .before .before .before .if1 .left in omega arith) bits
 

@@ -1,3 +1,4 @@
+-- `left_at`: the pointer is a cell of the board, or off it.
 use Rattle.cells.proofs.Contracts.{leaves-by}
 use Rattle.buttons.proofs.Plays.{inside-wide, cell-wide}
 use Rattle.buttons.proofs.Cases.{left-at-cell, left-at-off}
@@ -5,49 +6,34 @@ use mathlib.Core.Path.{refl}
 use borrow.Author.Needs.{needs}
 use Rattle.buttons.proofs.left_at.Statement.{statement}
 use Rattle.buttons.proofs.left_at.Tie as tie
-use Rattle.buttons.proofs.left_at.Reads as reads
-use Rattle.buttons.proofs.left_at.Lts as lts
-use Rattle.cells.proofs.wide.Reads as wide-reads
-use Rattle.clicks.proofs.add_left.Reads as add-left-reads
-use Rattle.clicks.proofs.left_click.Reads as left-click-reads
 
--- src/lib.rt:25:25
 enum-known-x : tie.Need-enum-known-x
 enum-known-x c = search needs
 
--- src/lib.rt:26:17
 wide-requires : tie.Need-wide-requires
 wide-requires c κs = search needs
 
--- src/lib.rt:27:17
 wide-requires-2 : tie.Need-wide-requires-2
 wide-requires-2 c κs = search needs
 
--- src/lib.rt:28:13
 left-click-requires : tie.Need-left-click-requires
 left-click-requires c κs = (c .before .before .before .before .before .before .before .before .before .pre .0, (c .before .before .before .before .before .before .before .before .before .pre .1 .0, inside-wide (c .before .before .before .wide .ensures .0) (c .before .before .wide2 .ensures .0) (c .before .before .before .before .before .before .before .before .before .args .p .settings) (c .before .before .before .before .before .before .before .before .before .args .x) (c .before .before .before .before .before .before .before .before .before .pre .1 .1) (c .before .before .before .before .before .x .given .1)))
 
--- src/lib.rt:31:17
 enum-told : tie.Need-enum-told
 enum-told c = search needs
 
--- src/lib.rt:31:17
 add-left-requires : tie.Need-add-left-requires
 add-left-requires c κs = search needs
 
--- src/lib.rt:18:1
 same-length : tie.Need-same-length
 same-length c = search needs
 
--- src/lib.rt:18:1
 same-length-2 : tie.Need-same-length-2
 same-length-2 c = search needs
 
--- src/lib.rt:18:1
 returns : tie.Need-returns
 returns c = λ bits. leaves-by (c .before .before .before .before .left-click .ensures bits) (left-at-cell _ (c .before .before .before .before .before .before .before .before .before .before .before .before .before .before .args .x) (c .before .before .before .before .before .before .before .before .before .before .before .before .before .before .args .p) (c .before .before .before .before .before .before .before .before .before .before .before .before .before .before .args .p) _ bits _ _ _ (c .before .before .before .before .before .before .before .before .before .before .x .given .1) (cell-wide (c .before .before .before .before .before .before .before .before .wide .ensures .0) (c .before .before .before .before .before .before .before .wide2 .ensures .0) (c .before .before .before .before .before .before .before .before .before .before .before .before .before .before .args .p .settings .columns)))
 
--- src/lib.rt:18:1
 returns-2 : tie.Need-returns-2
 returns-2 c = λ bits. record { outcome = left-at-off _ (c .before .before .before .before .before .args .x) (c .before .before .before .before .before .args .p) _ _ bits (c .before .enum-told .given .1) (c .add-left .ensures); same = refl }
 

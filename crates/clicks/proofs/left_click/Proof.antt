@@ -1,3 +1,4 @@
+-- `left_click`: not closed, a number, or a 0 or a mine.
 use mathlib.Core.Path.{refl}
 use native.Mathlib.Omega.{arith}
 use Rattle.cells.proofs.Grid.{cell-lt}
@@ -5,75 +6,52 @@ use Rattle.clicks.proofs.Steps.{added-laid, added-place, added-room, le
 use borrow.Author.Needs.{needs}
 use Rattle.clicks.proofs.left_click.Statement.{statement}
 use Rattle.clicks.proofs.left_click.Tie as tie
-use Rattle.clicks.proofs.left_click.Reads as reads
-use Rattle.clicks.proofs.left_click.Lts as lts
-use Rattle.cells.proofs.face_at.Reads as face-at-reads
-use Rattle.clicks.proofs.add_left.Reads as add-left-reads
-use Rattle.clicks.proofs.is_number.Reads as is-number-reads
-use Rattle.clicks.proofs.left_number.Reads as left-number-reads
-use Rattle.clicks.proofs.left_spreads.Reads as left-spreads-reads
 
--- src/lib.rt:210:19
 cast-columns : tie.Need-cast-columns
 cast-columns c = search needs
 
--- src/lib.rt:211:16
 mul-cell : tie.Need-mul-cell
 mul-cell c = let i = cell-lt (c .before .before .before .args .p .settings .rows) (c .before .before .before .args .p .settings .columns) (c .before .before .before .args .row) (c .before .before .before .args .column) (c .before .before .before .pre .1 .1 .0) (c .before .before .before .pre .1 .1 .1) in omega (arith, c .before .before .before .pre .0 .fits .mined .sized .cells)
 
--- src/lib.rt:211:16
 add-cell : tie.Need-add-cell
 add-cell c = let i = cell-lt (c .before .before .before .args .p .settings .rows) (c .before .before .before .args .p .settings .columns) (c .before .before .before .args .row) (c .before .before .before .args .column) (c .before .before .before .pre .1 .1 .0) (c .before .before .before .pre .1 .1 .1) in omega (arith, c .before .before .before .pre .0 .fits .mined .sized .cells)
 
--- src/lib.rt:212:8
 slice-read-if1 : tie.Need-slice-read-if1
 slice-read-if1 c = let i = cell-lt (c .before .before .before .before .args .p .settings .rows) (c .before .before .before .before .args .p .settings .columns) (c .before .before .before .before .args .row) (c .before .before .before .before .args .column) (c .before .before .before .before .pre .1 .1 .0) (c .before .before .before .before .pre .1 .1 .1) in omega (arith, c .before .before .before .before .pre .0 .fits .board)
 
--- src/lib.rt:213:13
 add-left-requires : tie.Need-add-left-requires
 add-left-requires c κs = search needs
 
--- src/lib.rt:214:9
 returns : tie.Need-returns
 returns c = left-idle _ _ _ _ _ _ (c .add-left .ensures) (c .before .if1 .taken)
 
--- src/lib.rt:219:9
 face-at-requires : tie.Need-face-at-requires
 face-at-requires c κs = let i = cell-lt (c .before .before .before .before .before .args .p .settings .rows) (c .before .before .before .before .before .args .p .settings .columns) (c .before .before .before .before .before .args .row) (c .before .before .before .before .before .args .column) (c .before .before .before .before .before .pre .1 .1 .0) (c .before .before .before .before .before .pre .1 .1 .1) in (omega (arith, c .before .before .before .before .before .pre .0 .fits .mined .long), c .before .before .before .before .before .pre .0 .fits .mined .valued)
 
--- src/lib.rt:220:8
 is-number-requires : tie.Need-is-number-requires
 is-number-requires c κs = search needs
 
--- src/lib.rt:221:9
 left-number-requires : tie.Need-left-number-requires
 left-number-requires c κs = (number-at _ (c .before .before .before .before .before .before .before .before .before .pre .0) (c .before .before .before .before .before .before .before .before .before .pre .1 .1) (c .before .before .before .before .if1 .left) (c .before .before .before .face-at .ensures) (c .before .before .is-number .ensures .yes (c .before .if2 .taken)), c .before .before .before .before .before .before .before .before .before .pre .1 .0)
 
--- src/lib.rt:221:9
 same-length : tie.Need-same-length
 same-length c = search needs
 
--- src/lib.rt:221:9
 returns-2 : tie.Need-returns-2
 returns-2 c = λ bits. record { outcome = c .before .before .left-number .ensures bits; same = refl }
 
--- src/lib.rt:223:9
 add-left-requires-2 : tie.Need-add-left-requires-2
 add-left-requires-2 c κs = search needs
 
--- src/lib.rt:224:5
 left-spreads-requires : tie.Need-left-spreads-requires
 left-spreads-requires c κs = (added-laid (c .before .before .before .before .before .before .before .before .before .before .before .args .p) _ (c .before .before .add-left2 .ensures) (c .before .before .before .before .before .before .before .before .before .before .before .pre .0), (added-place (c .before .before .before .before .before .before .before .before .before .before .before .args .p) _ (c .before .before .add-left2 .ensures) _ (cell-lt _ _ _ _ (c .before .before .before .before .before .before .before .before .before .before .before .pre .1 .1 .0) (c .before .before .before .before .before .before .before .before .before .before .before .pre .1 .1 .1)), (added-room (c .before .before .before .before .before .before .before .before .before .before .before .args .p) _ (c .before .before .add-left2 .ensures) (c .before .before .before .before .before .before .before .before .before .before .before .pre .1 .0), record { own = c .before .before .before .before .before .face-at .ensures; zero = c .before .before .before .before .is-number .ensures .no (c .before .before .before .if2 .left) })))
 
--- src/lib.rt:197:1
 same-length-2 : tie.Need-same-length-2
 same-length-2 c = search needs
 
--- src/lib.rt:197:1
 same-length-3 : tie.Need-same-length-3
 same-length-3 c = search needs
 
--- src/lib.rt:197:1
 returns-3 : tie.Need-returns-3
 returns-3 c = left-closed _ _ _ _ _ _ (c .before .before .before .before .before .before .before .add-left2 .ensures) (c .before .before .before .before .before .before .before .before .before .before .before .if1 .left) _ _ _ (c .before .before .before .before .left-spreads .ensures)
 

@@ -1,34 +1,24 @@
+-- `left_spreads`: the counts, then the cell by itself is opened.
 use Rattle.clicks.proofs.Steps.{spread-asks, spread-done}
 use borrow.Author.Needs.{needs}
 use Rattle.clicks.proofs.left_spreads.Statement.{statement}
 use Rattle.clicks.proofs.left_spreads.Tie as tie
-use Rattle.clicks.proofs.left_spreads.Reads as reads
-use Rattle.clicks.proofs.left_spreads.Lts as lts
-use Rattle.clicks.proofs.only.Reads as only-reads
-use Rattle.clicks.proofs.open_cells.Reads as open-cells-reads
-use Rattle.clicks.proofs.spread_counts.Reads as spread-counts-reads
 
--- src/lib.rt:179:9
 spread-counts-requires : tie.Need-spread-counts-requires
 spread-counts-requires c κs = search needs
 
--- src/lib.rt:180:9
 only-requires : tie.Need-only-requires
 only-requires c κs = search needs
 
--- src/lib.rt:181:5
 open-cells-requires : tie.Need-open-cells-requires
 open-cells-requires c κs = spread-asks _ _ _ _ _ _ _ (c .before .before .before .before .before .spread-counts .ensures) _ (c .before .before .only .ensures) (c .before .before .before .before .before .before .before .before .before .before .pre .0) (c .before .before .before .before .before .before .before .before .before .before .pre .1 .0)
 
--- src/lib.rt:165:1
 same-length : tie.Need-same-length
 same-length c = search needs
 
--- src/lib.rt:165:1
 same-length-2 : tie.Need-same-length-2
 same-length-2 c = search needs
 
--- src/lib.rt:165:1
 returns : tie.Need-returns
 returns c = spread-done _ _ _ _ _ _ _ (c .before .before .before .before .before .before .before .before .before .before .spread-counts .ensures) _ (c .before .before .before .before .before .before .before .only .ensures) _ _ _ (c .before .before .before .before .open-cells .ensures)
 

@@ -1,37 +1,27 @@
+-- `spread_counts`: a mine counts nothing, a 0 is judged on the board as it is before opening.
 use Rattle.clicks.proofs.Steps.{spread-mine, spread-zero}
 use borrow.Author.Needs.{needs}
 use Rattle.clicks.proofs.spread_counts.Statement.{statement}
 use Rattle.clicks.proofs.spread_counts.Tie as tie
-use Rattle.clicks.proofs.spread_counts.Reads as reads
-use Rattle.clicks.proofs.spread_counts.Lts as lts
-use Rattle.clicks.proofs.left_counts.Reads as left-counts-reads
-use Rattle.judging.proofs.cell_is_op_completed.Reads as cell-is-op-completed-reads
 
--- src/lib.rt:144:9
 returns : tie.Need-returns
 returns c = spread-mine _ _ _ _ _ _ (c .before .before .before .pre .1 .1 .1) (c .if1 .taken)
 
--- src/lib.rt:146:16
 cast-rows : tie.Need-cast-rows
 cast-rows c = search needs
 
--- src/lib.rt:147:19
 cast-columns : tie.Need-cast-columns
 cast-columns c = search needs
 
--- src/lib.rt:148:9
 cell-is-op-completed-requires : tie.Need-cell-is-op-completed-requires
 cell-is-op-completed-requires c κs = search needs
 
--- src/lib.rt:149:5
 left-counts-requires : tie.Need-left-counts-requires
 left-counts-requires c κs = search needs
 
--- src/lib.rt:129:1
 same-length : tie.Need-same-length
 same-length c = search needs
 
--- src/lib.rt:129:1
 returns-2 : tie.Need-returns-2
 returns-2 c = spread-zero _ _ _ _ _ _ (c .before .before .before .before .before .before .before .before .before .before .pre .1 .1 .1) (c .before .before .before .before .before .before .before .if1 .left) _ _ _ (c .before .before .before .cell-is-op-completed .ensures) (c .left-counts .ensures)
 

@@ -3,49 +3,34 @@ use Rattle.hands.proofs.Hand.{right-place, right-asks, right-flags, rig
 use borrow.Author.Needs.{needs}
 use Rattle.hands.proofs.right_click.Statement.{statement}
 use Rattle.hands.proofs.right_click.Tie as tie
-use Rattle.hands.proofs.right_click.Reads as reads
-use Rattle.hands.proofs.right_click.Lts as lts
-use Rattle.marking.proofs.flag.Reads as flag-reads
-use Rattle.marking.proofs.take_back.Reads as take-back-reads
-use Rattle.passes.proofs.passes_after_flag.Reads as passes-after-flag-reads
 
--- src/lib.rt:24:8
 slice-read-if1 : tie.Need-slice-read-if1
 slice-read-if1 c = search needs
 
--- src/lib.rt:25:13
 flag-requires : tie.Need-flag-requires
 flag-requires c κs = (right-place _ _ (c .before .before .before .before .before .before .before .args .p) _ _ _ (c .before .before .before .before .before .before .before .pre .0) (c .before .before .before .before .before .before .before .pre .1), (c .before .before .before .before .before .before .before .pre .0 .laid .fits .mined .valued, c .before .before .before .before .before .before .before .pre .0 .room))
 
--- src/lib.rt:26:13
 passes-after-flag-requires : tie.Need-passes-after-flag-requires
 passes-after-flag-requires c κs = right-asks _ _ (c .before .before .before .before .before .before .before .before .before .before .before .before .before .before .before .args .p) _ _ _ (c .before .before .before .before .before .before .before .before .before .before .before .before .before .before .before .pre .0) (c .before .before .before .before .before .before .before .before .before .before .if1 .taken) _ (c .before .before .before .before .before .before .before .flag .ensures)
 
--- src/lib.rt:27:9
 same-length : tie.Need-same-length
 same-length c = search needs
 
--- src/lib.rt:27:9
 same-length-2 : tie.Need-same-length-2
 same-length-2 c = search needs
 
--- src/lib.rt:27:9
 same-length-3 : tie.Need-same-length-3
 same-length-3 c = search needs
 
--- src/lib.rt:27:9
 returns : tie.Need-returns
 returns c = right-flags _ _ (c .before .before .before .before .before .before .before .before .before .before .before .before .before .before .before .before .before .before .before .before .before .before .args .p) _ _ _ (c .before .before .before .before .before .before .before .before .before .before .before .before .before .before .before .before .before .before .before .before .before .before .pre .0) (c .before .before .before .before .before .before .before .before .before .before .before .before .before .before .before .before .before .if1 .taken) _ (c .before .before .before .before .before .before .before .before .before .before .before .before .before .before .flag .ensures) _ _ (c .before .before .before .before .before .before .passes-after-flag .ensures)
 
--- src/lib.rt:32:5
 take-back-requires : tie.Need-take-back-requires
 take-back-requires c κs = search needs
 
--- src/lib.rt:12:1
 same-length-4 : tie.Need-same-length-4
 same-length-4 c = search needs
 
--- src/lib.rt:12:1
 returns-2 : tie.Need-returns-2
 returns-2 c = right-takes _ _ (c .before .before .before .before .before .before .before .before .before .args .p) _ _ _ (c .before .before .before .before .before .before .before .before .before .pre .0) (c .before .before .before .before .if1 .left) _ (c .before .before .take-back .ensures _)
 

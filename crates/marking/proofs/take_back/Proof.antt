@@ -5,57 +5,40 @@ use Rattle.marking.proofs.Marks.{back-flag, back-question, back-open}
 use borrow.Author.Needs.{needs}
 use Rattle.marking.proofs.take_back.Statement.{statement}
 use Rattle.marking.proofs.take_back.Tie as tie
-use Rattle.marking.proofs.take_back.Reads as reads
-use Rattle.marking.proofs.take_back.Lts as lts
-use Rattle.marking.proofs.add_right.Reads as add-right-reads
-use Rattle.marking.proofs.after_flag.Reads as after-flag-reads
-use Rattle.rules.proofs.Position.with_flag.Reads as with-flag-reads
 
--- src/lib.rt:75:9
 add-right-requires : tie.Need-add-right-requires
 add-right-requires c κs = search needs
 
--- src/lib.rt:76:13
 slice-read-v : tie.Need-slice-read-v
 slice-read-v c = search needs
 
--- src/lib.rt:78:13
 after-flag-requires : tie.Need-after-flag-requires
 after-flag-requires c κs = search needs
 
--- src/lib.rt:79:9
 slice-write-shown : tie.Need-slice-write-shown
 slice-write-shown c = search needs
 
--- src/lib.rt:80:17
 sub-n : tie.Need-sub-n
 sub-n c = omega (arith, c .before .before .before .before .before .before .pre .1 .flagged _ (c .before .before .if1 .taken))
 
--- src/lib.rt:81:13
 with-flag-requires : tie.Need-with-flag-requires
 with-flag-requires c κs = search needs
 
--- src/lib.rt:82:9
 same-length : tie.Need-same-length
 same-length c = search needs
 
--- src/lib.rt:82:9
 returns : tie.Need-returns
 returns c = λ bits. simp (c .with-flag .ensures, c .before .before .before .before .before .add-right .ensures, c .before .before .after-flag .ensures) (sym (back-flag _ _ (c .before .before .before .if1 .taken)))
 
--- src/lib.rt:88:9
 slice-write-shown-2 : tie.Need-slice-write-shown-2
 slice-write-shown-2 c = search needs
 
--- src/lib.rt:89:9
 same-length-2 : tie.Need-same-length-2
 same-length-2 c = search needs
 
--- src/lib.rt:89:9
 returns-2 : tie.Need-returns-2
 returns-2 c = λ bits. simp (c .before .before .before .add-right .ensures) (sym (back-question _ _ (c .if2 .taken)))
 
--- src/lib.rt:70:1
 returns-3 : tie.Need-returns-3
 returns-3 c = λ bits. simp (c .before .before .before .add-right .ensures) (sym (back-open _ _ (c .before .if1 .left) (c .if2 .left)))
 
