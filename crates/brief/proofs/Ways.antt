@@ -1,6 +1,6 @@
 -- One equation for each brief event, what it asks of the rule's own function, and what an event that is not brief leaves.
-use mathlib.Core.Path.{_≡_, _∙_, refl, sym, ap, subst}
-use mathlib.Core.Bool.{Bool, true, false, not, _||_, true≢false}
+use mathlib.Core.Path.{_≡_, _∙_, refl, sym, ap}
+use mathlib.Core.Bool.{Bool, true, false, _||_, true≢false}
 use mathlib.Core.List.{List}
 use Prim.Native.Nat.{ℕ, _*_, _/_, _<_}
 use native.Mathlib.Omega.{arith}
@@ -15,7 +15,7 @@ use Rattle.rules.specs.declared.Pointer.the-variants.{Cell}
 use Rattle.rules.specs.Words.{pick}
 use Rattle.rules.specs.States.{mouseNumber, isPlaying}
 use Rattle.rules.specs.Grid.{cellOf}
-use Rattle.rules.specs.Board.{faceAt}
+use Rattle.rules.specs.Board.{faceAt, loneAt}
 use Rattle.rules.specs.Clicks.{Desk, Play, desk, done, leftClick, addRight, flagged}
 use Rattle.rules.specs.Passes.{passesAfterFlag, rightClick}
 use Rattle.rules.specs.Mouse.{moved, bothDown}
@@ -102,30 +102,31 @@ flag-leaves B i p r down shown bits shown′ bits′ d f = ap (done 1) (f ∙ ap
 
 -- ---- lr --------------------------------------------------------------------------------------------------------------------------------
 
-module _ (B : List ℤ) (row column : ℕ) (p up : Position) (shown : List ℕ) (r c : ℕ) (d : up ≡ moved 1 p) (er : r ≡ row) (ec : c ≡ column) where
-  -- a closed number, where the mouse has moved on
-  pub number-asks : Mined B (p .settings .rows) (p .settings .columns) → length shown ≡ p .settings .rows * p .settings .columns → Inside (p .settings) (Cell row column) → RoomAt p shown
-      → (i f : ℕ) → i ≡ cellOf (p .settings .columns) row column → getD shown i 0 ≡ 10 → f ≡ faceAt B i → (f ≡ 0 → ⊥) × (f ≡ 15 → ⊥)
-      → NumberAt B (up .settings) shown r c f × RoomAt up shown
-  unfolding moved
-  number-asks m b o room i f e ten own n =
-      rw (d, er, ec) (
-        record {
-          mined = m;
-          board = b;
-          inside = o;
-          closed = subst (λ (j : ℕ). getD shown j 0 ≡ 10) e ten;
-          own = own ∙ ap (faceAt B) e;
-          nonzero = n .0;
-          safe = n .1;
-        },
-        room,
-      )
-
-  pub lr-left : (m : ℕ) → m ≡ mouseNumber (p .mouse) → m ≡ 3 → (bits : List ℕ)
-      → leftClick B (cellOf (up .settings .columns) r c) (desk up shown bits) ≡ playLr B (Cell row column) (desk p shown bits)
+module _ (B : List ℤ) (row column i : ℕ) (p : Position) (at : i ≡ cellOf (p .settings .columns) row column) where
+  pub lr-left : (up : Position) (shown : List ℕ) → up ≡ moved 1 p → (m : ℕ) → m ≡ mouseNumber (p .mouse) → m ≡ 3 → (bits : List ℕ)
+      → leftClick B i (desk up shown bits) ≡ playLr B (Cell row column) (desk p shown bits)
   unfolding playLr leftAt moved
-  lr-left m e z bits = rw (d, er, ec, eq-eqb (mouseNumber (p .mouse)) 3 (sym e ∙ z)) refl
+  lr-left up shown d m e z bits = rw (d, at, eq-eqb (mouseNumber (p .mouse)) 3 (sym e ∙ z)) refl
+
+  module _ (f : ℕ) (own : f ≡ faceAt B i) (n : (f ≡ 0 → ⊥) × (f ≡ 15 → ⊥)) (mined : Mined B (p .settings .rows) (p .settings .columns)) (o : Inside (p .settings) (Cell row column)) where
+    -- whether it is lone is asked by its row and column
+    module _ (r c : ℕ) (er : r ≡ row) (ec : c ≡ column) where
+      here : cellOf (p .settings .columns) r c ≡ i
+      here = rw (er, ec) (sym at)
+
+      pub lone-asks : Mined B (p .settings .rows) (p .settings .columns)
+          × (((r < p .settings .rows) × (c < p .settings .columns))
+          × ((faceAt B (cellOf (p .settings .columns) r c) ≡ 0 → ⊥) × (faceAt B (cellOf (p .settings .columns) r c) ≡ 15 → ⊥)))
+      lone-asks = let e = own ∙ sym (ap (faceAt B) here) in (mined, (rw (er, ec) o, ((λ z. n .0 (e ∙ z)), (λ z. n .1 (e ∙ z)))))
+
+      -- a closed number, where the mouse has moved on
+      pub number-asks : (lone : Bool) → lone ≡ loneAt B (p .settings .rows) (p .settings .columns) (cellOf (p .settings .columns) r c) → (up : Position) → up ≡ moved 1 p → (shown : List ℕ)
+          → length shown ≡ p .settings .rows * p .settings .columns → RoomAt p shown → getD shown i 0 ≡ 10 → NumberAt B (up .settings) shown i f lone × RoomAt up shown
+      unfolding moved
+      number-asks lone a up d shown b room ten =
+          let on : i < p .settings .rows * p .settings .columns = rw at (on-board (p .settings) row column o) in
+          let alone = a ∙ ap (loneAt B (p .settings .rows) (p .settings .columns)) here in
+          rw d (record { mined = mined; board = b; inside = on; closed = ten; own = own; nonzero = n .0; safe = n .1; alone = alone }, room)
 
 -- ---- by the code -----------------------------------------------------------------------------------------------------------------------
 

@@ -107,10 +107,13 @@ fn release_left(p: Position, row: u8, column: u8, mines: &[i8], shown: &mut [u8]
     if !clicks::is_number(face) {
         return Brief::Other;
     }
-    let up = mouse::moved(1, p);
+    let rows = p.settings.rows as usize;
+    let columns = p.settings.columns as usize;
     let r = cells::wide(row);
     let c = cells::wide(column);
-    let o = clicks::left_number(up, mines, shown, r, c, face);
+    let lone = lones::lone_number(mines, rows, columns, r, c);
+    let up = mouse::moved(1, p);
+    let o = clicks::left_number(up, mines, shown, cell, face, lone);
     Brief::Done(o)
 }
 

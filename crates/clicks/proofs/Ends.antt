@@ -1,5 +1,5 @@
 -- How an opening ends: the way through the code, and what it leaves of a desk.
-use mathlib.Core.Path.{_≡_, refl, ap, ap₂, _∙_}
+use mathlib.Core.Path.{_≡_, refl, ap, ap₂, sym, _∙_}
 use mathlib.Core.Bool.{Bool, true, false}
 use mathlib.Core.List.{List, [], _∷_}
 use mathlib.Core.Logic.{_⊎_, inl, inr}
@@ -17,7 +17,7 @@ use Rattle.rules.specs.Opening.{Opened, refreshed, run, turns, shownAfter, stac
 use Rattle.rules.specs.Clicks.{Desk, Play, desk, done, showing, isWon, ended}
 use Rattle.cells.specs.Contracts.{play, Acts}
 use Rattle.opening.specs.Parts.{opened}
-use Rattle.clicks.specs.Parts.{opensWith}
+use Rattle.clicks.specs.Parts.{endSafe, opensWith}
 
 -- what an ending leaves: the opened board, and all but the game state as it was
 pub record Ending (n : ℕ) (d : Desk) (shown : List ℕ) (x : Play) : Type 0 where
@@ -48,6 +48,12 @@ module _ (B : List ℤ) (n : ℕ) (d : Desk) (o : Opened) where
       go true b e w = rw (ended-hit e) (record { answer = inl refl; board = refl; bits = refl; settings = refl; counts = refl; secrets = refl })
       go false true e w = rw (ended-won e w) (record { answer = inr refl; board = refl; bits = refl; settings = refl; counts = refl; secrets = refl })
       go false false e w = rw (ended-open e w) (record { answer = inr refl; board = refl; bits = refl; settings = refl; counts = refl; secrets = refl })
+
+-- no mine is hit, and the win is known
+pub ended-safe : (B : List ℤ) (n : ℕ) (p : Position) (past shown bits : List ℕ) {hit : Bool} → hit ≡ false → (won : Bool) → won ≡ isWon B shown → (r : Played) → r ≡ endSafe n won p
+    → play r shown bits ≡ ended B n (desk p past bits) (opened shown hit)
+ended-safe B n p past shown bits e true w r s = ap (λ (x : Played). play x shown bits) s ∙ sym (ended-won B n _ _ e (sym w))
+ended-safe B n p past shown bits e false w r s = ap (λ (x : Played). play x shown bits) s ∙ sym (ended-open B n _ _ e (sym w))
 
 -- the cells opened, and the ending
 pub opened-ends : (B : List ℤ) (n : ℕ) (given : List ℕ) (p : Position) (shown work : List ℕ) (r : Played) (shown′ work′ : List ℕ) (hit : Bool)

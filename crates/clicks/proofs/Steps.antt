@@ -1,11 +1,10 @@
 -- The ways through a left click: from what the called functions ensure to the definition.
-use mathlib.Core.Path.{_≡_, refl, ap, sym, subst, _∙_}
-use mathlib.Core.Bool.{Bool, true, false, not}
+use mathlib.Core.Path.{_≡_, refl, ap, sym, _∙_}
+use mathlib.Core.Bool.{Bool, true, false}
 use mathlib.Core.List.{List, [], _∷_}
 use Prim.Native.Nat.{ℕ, _+_, _*_, _<_, _≤_}
 use native.Mathlib.Omega.{arith}
 use borrow.Author.Tests.{eq-eqb, ne-eqb}
-use lib.Dec.{leb}
 use lib.ListN.{getD, set}
 use lib.IntN.{ℤ}
 use Rattle.rules.specs.declared.Settings.{Settings}
@@ -14,18 +13,15 @@ use Rattle.rules.specs.declared.Played.{Played}
 use Rattle.rules.specs.declared.Cells.{Cells}
 use Rattle.rules.specs.Words.{pick, bit, stackOf}
 use Rattle.rules.specs.States.{withLeft, withLce, withSolvedLeft}
-use Rattle.rules.specs.Grid.{cellOf, around}
-use Rattle.rules.specs.Board.{faceAt, mineAt}
+use Rattle.rules.specs.Board.{faceAt, mineAt, loneAt}
 use Rattle.rules.specs.Opening.{refreshed}
 use Rattle.rules.specs.Judging.{judgedLeft}
-use Rattle.rules.specs.Clicks.{Desk, desk, rowsOf, columnsOf, ended, addLeft, solvesLeft, leftCounts, leftOpens, leftClick}
-use Rattle.cells.specs.Ground.{Below, faceIs}
+use Rattle.rules.specs.Clicks.{Desk, desk, rowsOf, columnsOf, isWon, ended, addLeft, solvesLeft, leftCounts, leftOpens, leftClick}
+use Rattle.cells.specs.Ground.{Below}
 use Rattle.cells.specs.Contracts.{Laid, LaidAt, RoomAt, play, Leaves, Acts}
-use Rattle.cells.proofs.Grid.{cell-lt}
 use Rattle.opening.specs.Parts.{opened}
-use Rattle.lones.proofs.Lones.{lone-number}
-use Rattle.clicks.specs.Parts.{NumberAt, SpreadsAt, Adds, opensWith, leftAdds, Collected}
-use Rattle.clicks.proofs.Ends.{opened-number}
+use Rattle.clicks.specs.Parts.{endSafe, NumberAt, SpreadsAt, Adds, opensWith, leftAdds, Collected}
+use Rattle.clicks.proofs.Ends.{ended-safe, opened-number}
 
 -- ---- left + 1 leaves all else ----------------------------------------------------------------------------------------------------------
 
@@ -51,43 +47,34 @@ module _ (B : List ℤ) (i : ℕ) (p : Position) (shown work : List ℕ) (q : Po
 -- ---- a number --------------------------------------------------------------------------------------------------------------------------
 
 -- a closed cell of the board that shows a number once it is open
-pub number-at : {B : List ℤ} (s : Settings) {shown work : List ℕ} {row column face : ℕ} → Laid B shown work (s .rows) (s .columns) → (row < s .rows) × (column < s .columns)
-    → getD shown (cellOf (s .columns) row column) 0 ≡ 10 → face ≡ faceAt B (cellOf (s .columns) row column) → (face ≡ 0 → ⊥) × (face ≡ 15 → ⊥)
-    → NumberAt B s shown row column face
-number-at s l i ten own n =
-    record { mined = l .fits .mined; board = l .fits .board; inside = i; closed = ten; own = own; nonzero = n .0; safe = n .1 }
+pub number-at : {B : List ℤ} (s : Settings) {shown work : List ℕ} {i face : ℕ} {lone : Bool} → Laid B shown work (s .rows) (s .columns) → i < s .rows * s .columns → getD shown i 0 ≡ 10
+    → face ≡ faceAt B i → (face ≡ 0 → ⊥) × (face ≡ 15 → ⊥) → lone ≡ loneAt B (s .rows) (s .columns) i → NumberAt B s shown i face lone
+number-at s l h ten own n a =
+    record { mined = l .fits .mined; board = l .fits .board; inside = h; closed = ten; own = own; nonzero = n .0; safe = n .1; alone = a }
 
-pub number-place : {B : List ℤ} {s : Settings} {shown : List ℕ} {row column face : ℕ} → NumberAt B s shown row column face → cellOf (s .columns) row column < s .rows * s .columns
-number-place {s} {row} {column} h = cell-lt (s .rows) (s .columns) row column (h .inside .0) (h .inside .1)
+module _ (B : List ℤ) (p : Position) (shown : List ℕ) (i f : ℕ) (lone : Bool) (h : NumberAt B (p .settings) shown i f lone) where
+  -- it solves exactly if it is lone
+  number-solves : (bits : List ℕ) → solvesLeft B (addLeft (desk p shown bits)) i ≡ lone
+  unfolding solvesLeft
+  number-solves bits = rw (ne-eqb _ _ (λ e. h .nonzero (h .own ∙ e))) (sym (h .alone))
 
-module _ (B : List ℤ) (p : Position) (shown : List ℕ) (row column f : ℕ) (h : NumberAt B (p .settings) shown row column f) where
-  abbrev here : ℕ
-  here = cellOf (p .settings .columns) row column
+  number-opens : (bits : List ℕ) → ended B 2 (leftCounts B (addLeft (desk p shown bits)) i) (opened (set shown i f) false) ≡ leftClick B i (desk p shown bits)
+  unfolding leftClick leftOpens
+  number-opens bits =
+      rw (eq-eqb _ _ (h .closed), ne-eqb (faceAt B i) 15 (λ e. h .safe (h .own ∙ e)), h .own)
+      (ap (ended B 2 (leftCounts B (addLeft (desk p shown bits)) i))
+      (opened-number B (p .settings .rows) (p .settings .columns) i shown (h .closed) (λ e. h .nonzero (h .own ∙ e)) (λ e. h .safe (h .own ∙ e))))
 
-  module _ (beside : Bool) (around-it : beside ≡ leb 1 (around (p .settings .rows) (p .settings .columns) (faceIs B 0) here)) where
-    -- it solves exactly if no 0 is beside it
-    number-solves : (bits : List ℕ) → solvesLeft B (addLeft (desk p shown bits)) here ≡ not beside
-    unfolding solvesLeft
-    number-solves bits =
-        rw (ne-eqb _ _ (λ e. h .nonzero (h .own ∙ e)))
-        (sym (lone-number B (p .settings .rows) (p .settings .columns) here (h .mined) (number-place h) f (h .own) (h .nonzero) (h .safe) beside around-it))
-
-    number-opens : (bits : List ℕ)
-        → ended B 2 (leftCounts B (addLeft (desk p shown bits)) here) (opened (set shown here f) false) ≡ leftClick B here (desk p shown bits)
-    unfolding leftClick leftOpens
-    number-opens bits =
-        rw (eq-eqb _ _ (h .closed), ne-eqb (faceAt B here) 15 (λ e. h .safe (h .own ∙ e)), h .own)
-        (ap (ended B 2 (leftCounts B (addLeft (desk p shown bits)) here))
-        (opened-number B (p .settings .rows) (p .settings .columns) here shown (h .closed) (λ e. h .nonzero (h .own ∙ e)) (λ e. h .safe (h .own ∙ e))))
-
-    pub number-done : (q z : Position) → q ≡ withLeft p (p .counts .left + 1)
-        → z ≡ withSolvedLeft (withLce q (q .counts .lce + 1)) (q .secrets .«solved_left» + bit (not beside)) → (r : Played)
-        → ((past bits : List ℕ) → play r (set shown here f) bits ≡ ended B 2 (desk z past bits) (opened (set shown here f) false))
-        → (bits : List ℕ) → play r (set shown here f) bits ≡ leftClick B here (desk p shown bits)
-    number-done q z added counted r e bits = e shown bits ∙ ap (λ (d : Desk). ended B 2 d (opened (set shown here f) false)) counts ∙ number-opens bits
-      where
-        counts : desk z shown bits ≡ leftCounts B (addLeft (desk p shown bits)) here
-        counts = rw (counted, added, number-solves bits) refl
+  pub number-done : (q z : Position) → q ≡ withLeft p (p .counts .left + 1)
+      → z ≡ withSolvedLeft (withLce q (q .counts .lce + 1)) (q .secrets .«solved_left» + bit lone) → (won : Bool) → won ≡ isWon B (set shown i f)
+      → (r : Played) → r ≡ endSafe 2 won z → (bits : List ℕ) → play r (set shown i f) bits ≡ leftClick B i (desk p shown bits)
+  number-done q z added counted won w r e bits =
+      ended-safe B 2 z shown (set shown i f) bits refl won w r e
+      ∙ ap (λ (d : Desk). ended B 2 d (opened (set shown i f) false)) counts
+      ∙ number-opens bits
+    where
+      counts : desk z shown bits ≡ leftCounts B (addLeft (desk p shown bits)) i
+      counts = rw (counted, added, number-solves bits) refl
 
 -- ---- a 0 or a mine ---------------------------------------------------------------------------------------------------------------------
 

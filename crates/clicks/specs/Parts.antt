@@ -7,24 +7,31 @@ use lib.ListN.{length, getD, set}
 use lib.IntN.{ℤ}
 use Rattle.rules.specs.declared.Settings.{Settings}
 use Rattle.rules.specs.declared.Position.{Position}
+use Rattle.rules.specs.declared.Played.{Played}
 use Rattle.rules.specs.declared.Cells.{Cells}
+use Rattle.rules.specs.declared.GameState.the-variants.{Win}
 use Rattle.rules.specs.Words.{pick, stackOf}
-use Rattle.rules.specs.Grid.{cellOf}
-use Rattle.rules.specs.Board.{faceAt, mineAt}
+use Rattle.rules.specs.States.{withGame}
+use Rattle.rules.specs.Board.{faceAt, mineAt, loneAt}
 use Rattle.rules.specs.Opening.{refreshed}
 use Rattle.rules.specs.Clicks.{Desk, Play, desk, rowsOf, columnsOf, ended, leftCounts}
 use Rattle.cells.specs.Ground.{Mined}
 use Rattle.cells.specs.Contracts.{Leaves}
 
--- a closed number of the board
-pub record NumberAt (B : List ℤ) (s : Settings) (shown : List ℕ) (row column face : ℕ) : Type 0 where
+-- the position where no mine was hit, with the answer given
+abbrev pub endSafe : ℕ → Bool → Position → Played
+endSafe n won p = record { answer = n; position = pick won (withGame p Win) p }
+
+-- a closed number of the board, and whether it is lone
+pub record NumberAt (B : List ℤ) (s : Settings) (shown : List ℕ) (i face : ℕ) (lone : Bool) : Type 0 where
   pub mined : Mined B (s .rows) (s .columns)
   pub board : length shown ≡ s .rows * s .columns
-  pub inside : (row < s .rows) × (column < s .columns)
-  pub closed : getD shown (cellOf (s .columns) row column) 0 ≡ 10
-  pub own : face ≡ faceAt B (cellOf (s .columns) row column)
+  pub inside : i < s .rows * s .columns
+  pub closed : getD shown i 0 ≡ 10
+  pub own : face ≡ faceAt B i
   pub nonzero : face ≡ 0 → ⊥
   pub safe : face ≡ 15 → ⊥
+  pub alone : lone ≡ loneAt B (s .rows) (s .columns) i
 
 -- a cell's own face, which is a 0 or a mine
 pub record SpreadsAt (B : List ℤ) (i face : ℕ) : Type 0 where

@@ -11,13 +11,30 @@ ghost use Rattle.rules.specs.Clicks.{desk, ended, leftOpens, leftClick};
 ghost use Rattle.cells.specs.Ground.{Valued, Below};
 ghost use Rattle.cells.specs.Contracts.{LaidAt, RoomAt, play, Acts};
 ghost use Rattle.opening.specs.Parts.{opened};
-ghost use Rattle.clicks.specs.Parts.{NumberAt, SpreadsAt, Told, Adds, opensWith, leftAdds, Collected};
+ghost use Rattle.clicks.specs.Parts.{endSafe, NumberAt, SpreadsAt, Told, Adds, opensWith, leftAdds, Collected};
 use rules::Cells;
 use rules::GameState;
 use rules::Played;
 use rules::Position;
 
 // ---- opening ---------------------------------------------------------------------------------------------------------------------------
+
+// How an opening that hits no mine ends: Win where no safe cell is left; the answer is the one given.
+fn end_safe(p: Position, won: bool, n: u16) -> Played
+    ensures { λ r. ⌜ r ≡ endSafe n won p ⌝ }
+{
+    if won {
+        let q = p.with_game(GameState::Win);
+        return Played {
+            answer: n,
+            position: q,
+        };
+    }
+    Played {
+        answer: n,
+        position: p,
+    }
+}
 
 // How an opening ends: a mine is Loss and 4; else the win is tested, and the answer is the one given.
 fn end_opening(p: Position, mines: &[i8], shown: &[u8], near: usize, hit: bool, n: u16) -> Played
@@ -34,17 +51,7 @@ fn end_opening(p: Position, mines: &[i8], shown: &[u8], near: usize, hit: bool, 
         };
     }
     let won = winning::is_win_near(mines, shown, near);
-    if won {
-        let q = p.with_game(GameState::Win);
-        return Played {
-            answer: n,
-            position: q,
-        };
-    }
-    Played {
-        answer: n,
-        position: p,
-    }
+    end_safe(p, won, n)
 }
 
 // The first of the cells, or 0 where it is no place of the board.
@@ -102,27 +109,26 @@ fn left_counts(p: Position, solves: bool) -> Position
     q.with_solved_left(n)
 }
 
-// LEFT on a closed number: it is shown, and opens nothing more.
+// LEFT on a closed number, lone or not: it is shown, and opens nothing more.
+// Whether it is lone is asked before, and the position comes last: so the compiler takes this into the loop over a row of events, which then
+// keeps its position at hand.
 pub fn left_number(
     p: Position,
     mines: &[i8],
     shown: &mut [u8],
-    row: usize,
-    column: usize,
+    cell: usize,
     face: u8,
+    lone: bool,
 ) -> Played
-    requires { ⌜ NumberAt (now mines) (p .settings) (now shown) row column face ⌝ }
+    requires { ⌜ NumberAt (now mines) (p .settings) (now shown) cell face lone ⌝ }
     requires { ⌜ RoomAt p (now shown) ⌝ }
-    ensures { λ r. ⌜ ((bits : List ℕ) → play r (now (shown .exit)) bits ≡ leftClick (now (mines .entry)) (cellOf (p .settings .columns) row column) (desk p (now (shown .entry)) bits)) ⌝ }
+    ensures { λ r. ⌜ ((bits : List ℕ) → play r (now (shown .exit)) bits ≡ leftClick (now (mines .entry)) cell (desk p (now (shown .entry)) bits)) ⌝ }
 {
-    let rows = p.settings.rows as usize;
-    let columns = p.settings.columns as usize;
-    let beside = cells::zero_beside(mines, rows, columns, row, column);
-    let q = add_left(p);
-    let z = left_counts(q, !beside);
-    let cell = row * columns + column;
     shown[cell] = face;
-    end_opening(z, mines, shown, cell, false, 2)
+    let won = winning::is_win_near(mines, shown, cell);
+    let q = add_left(p);
+    let z = left_counts(q, lone);
+    end_safe(z, won, 2)
 }
 
 // A mine counts nothing; the opening of a 0 is judged before it opens.
@@ -218,7 +224,9 @@ pub fn left_click(
     }
     let face = cells::face_at(mines, cell);
     if is_number(face) {
-        return left_number(p, mines, shown, row, column, face);
+        let rows = p.settings.rows as usize;
+        let lone = lones::lone_number(mines, rows, columns, row, column);
+        return left_number(p, mines, shown, cell, face, lone);
     }
     let q = add_left(p);
     left_spreads(q, mines, shown, work, cell, face)

@@ -42,10 +42,10 @@ module _ (B : List ℤ) (R C i : ℕ) where
   lone-no-mine v f z = sym (lone-mine (sym f ∙ z))
 
   -- a number: a 0 beside it decides
-  pub lone-number : Mined B R C → i < R * C → (v : ℕ) → v ≡ faceAt B i → (v ≡ 0 → ⊥) → (v ≡ 15 → ⊥) → (b : Bool) → b ≡ leb 1 (around R C (faceIs B 0) i) → not b ≡ loneAt B R C i
+  pub lone-number : Mined B R C → i < R * C → (faceAt B i ≡ 0 → ⊥) → (faceAt B i ≡ 15 → ⊥) → (b : Bool) → b ≡ leb 1 (around R C (faceIs B 0) i) → not b ≡ loneAt B R C i
   unfolding loneAt zeroAt
-  lone-number m on v f z k b e =
-      let s : faceAt B i ≤ 8 = face-safe (getD B i (pos 0)) (m .valued i (rw (m .long) on)) (λ y. k (f ∙ y)) in
+  lone-number m on z k b e =
+      let s : faceAt B i ≤ 8 = face-safe (getD B i (pos 0)) (m .valued i (rw (m .long) on)) k in
       let o : 1 ≤ faceAt B i = omega arith in
       simp (le-leb _ _ o, le-leb _ _ s, ap not e ∙ none-beside (around R C (faceIs B 0) i))
 

@@ -4,9 +4,20 @@ ghost use mathlib.Core.Path.{_≡_};
 ghost use Prim.Native.Nat.{_*_, _<_, _≤_};
 ghost use Rattle.rules.specs.Words.{bit, stackOf};
 ghost use Rattle.rules.specs.Grid.{cellOf};
-ghost use Rattle.rules.specs.Board.{loneAt};
+ghost use Rattle.rules.specs.Board.{faceAt, loneAt};
 ghost use Rattle.cells.specs.Ground.{Mined, Below};
 ghost use Rattle.lones.specs.Counts.{Lone, LoneRow};
+
+// A number has no 0 neighbour; that the cell is one is known. Small enough for the compiler to take it into the loop over a row of events.
+pub fn lone_number(mines: &[i8], rows: usize, columns: usize, row: usize, column: usize) -> bool
+    requires { ⌜ Mined (now mines) rows columns ⌝ }
+    requires { ⌜ (row < rows) × (column < columns) ⌝ }
+    requires { ⌜ (faceAt (now mines) (cellOf columns row column) ≡ 0 → ⊥) × (faceAt (now mines) (cellOf columns row column) ≡ 15 → ⊥) ⌝ }
+    ensures { λ r. ⌜ r ≡ loneAt (now (mines .entry)) rows columns (cellOf columns row column) ⌝ }
+{
+    let beside = cells::zero_beside(mines, rows, columns, row, column);
+    !beside
+}
 
 // A number without a 0 neighbour, by its row and column.
 fn lone_at(mines: &[i8], rows: usize, columns: usize, row: usize, column: usize) -> bool
@@ -21,8 +32,7 @@ fn lone_at(mines: &[i8], rows: usize, columns: usize, row: usize, column: usize)
     if v == 15 {
         return false;
     }
-    let beside = cells::zero_beside(mines, rows, columns, row, column);
-    !beside
+    lone_number(mines, rows, columns, row, column)
 }
 
 // A number without a 0 neighbour.

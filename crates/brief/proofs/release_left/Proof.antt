@@ -2,7 +2,7 @@
 use mathlib.Core.Path.{_∙_}
 use native.Mathlib.Omega.{arith}
 use borrow.Author.Tests.{not-false}
-use Rattle.brief.proofs.Ways.{on-board, number-asks, lr-left}
+use Rattle.brief.proofs.Ways.{on-board, lone-asks, number-asks, lr-left}
 use borrow.Author.Needs.{needs}
 use Rattle.brief.proofs.release_left.Statement.{statement}
 use Rattle.brief.proofs.release_left.Tie as tie
@@ -31,8 +31,11 @@ is-number-requires c κs = search needs
 returns-3 : tie.Need-returns-3
 returns-3 c = search needs
 
-moved-requires : tie.Need-moved-requires
-moved-requires c κs = search needs
+cast-rows : tie.Need-cast-rows
+cast-rows c = search needs
+
+cast-columns : tie.Need-cast-columns
+cast-columns c = search needs
 
 wide-requires : tie.Need-wide-requires
 wide-requires c κs = search needs
@@ -40,14 +43,20 @@ wide-requires c κs = search needs
 wide-requires-2 : tie.Need-wide-requires-2
 wide-requires-2 c κs = search needs
 
+lone-number-requires : tie.Need-lone-number-requires
+lone-number-requires c κs = let a = c .before .before .before .before .before .before .before .before .before .before .before .before .before .args in let pre = c .before .before .before .before .before .before .before .before .before .before .before .before .before .pre in let number = c .before .before .before .before .before .is-number .ensures .yes (not-false _ (c .before .before .before .before .if3 .left)) in lone-asks _ (a .row) (a .column) _ (a .p) (c .before .before .before .before .before .before .before .before .before .cell .ensures) _ (c .before .before .before .before .before .before .face-at .ensures) number (pre .0) (pre .1 .1 .0) _ _ (c .before .wide .ensures .0) (c .wide2 .ensures .0)
+
+moved-requires : tie.Need-moved-requires
+moved-requires c κs = search needs
+
 left-number-requires : tie.Need-left-number-requires
-left-number-requires c κs = number-asks _ (c .before .before .before .before .before .before .before .before .before .before .before .before .before .args .row) (c .before .before .before .before .before .before .before .before .before .before .before .before .before .args .column) (c .before .before .before .before .before .before .before .before .before .before .before .before .before .args .p) _ _ _ _ (c .before .before .before .moved .ensures) (c .before .before .wide .ensures .0) (c .before .wide2 .ensures .0) (c .before .before .before .before .before .before .before .before .before .before .before .before .before .pre .0) (c .before .before .before .before .before .before .before .before .before .before .before .before .before .pre .1 .0) (c .before .before .before .before .before .before .before .before .before .before .before .before .before .pre .1 .1 .0) (c .before .before .before .before .before .before .before .before .before .before .before .before .before .pre .1 .1 .1) _ _ (c .before .before .before .before .before .before .before .before .before .cell .ensures) (c .before .before .before .before .before .before .before .if2 .left) (c .before .before .before .before .before .before .face-at .ensures) (c .before .before .before .before .before .is-number .ensures .yes (not-false _ (c .before .before .before .before .if3 .left)))
+left-number-requires c κs = let a = c .before .before .before .before .before .before .before .before .before .before .before .before .before .before .before .before .args in let pre = c .before .before .before .before .before .before .before .before .before .before .before .before .before .before .before .before .pre in let number = c .before .before .before .before .before .before .before .before .is-number .ensures .yes (not-false _ (c .before .before .before .before .before .before .before .if3 .left)) in number-asks _ (a .row) (a .column) _ (a .p) (c .before .before .before .before .before .before .before .before .before .before .before .before .cell .ensures) _ (c .before .before .before .before .before .before .before .before .before .face-at .ensures) number (pre .0) (pre .1 .1 .0) _ _ (c .before .before .before .before .wide .ensures .0) (c .before .before .before .wide2 .ensures .0) _ (c .before .before .lone-number .ensures) _ (c .before .moved .ensures) _ (pre .1 .0) (pre .1 .1 .1) (c .before .before .before .before .before .before .before .before .before .before .if2 .left)
 
 same-length : tie.Need-same-length
 same-length c = search needs
 
 returns-4 : tie.Need-returns-4
-returns-4 c = λ bits. c .before .before .left-number .ensures bits ∙ lr-left _ (c .before .before .before .before .before .before .before .before .before .before .before .before .before .before .before .before .args .row) (c .before .before .before .before .before .before .before .before .before .before .before .before .before .before .before .before .args .column) (c .before .before .before .before .before .before .before .before .before .before .before .before .before .before .before .before .args .p) _ _ _ _ (c .before .before .before .before .before .before .moved .ensures) (c .before .before .before .before .before .wide .ensures .0) (c .before .before .before .before .wide2 .ensures .0) _ (c .before .before .before .before .before .before .before .before .before .before .before .before .before .before .mouse-number .ensures) (let z = c .before .before .before .before .before .before .before .before .before .before .before .before .before .if1 .left in omega arith) bits
+returns-4 c = λ bits. let a = c .before .before .before .before .before .before .before .before .before .before .before .before .before .before .before .before .before .before .before .args in c .before .before .left-number .ensures bits ∙ lr-left _ (a .row) (a .column) _ (a .p) (c .before .before .before .before .before .before .before .before .before .before .before .before .before .before .before .cell .ensures) _ _ (c .before .before .before .before .moved .ensures) _ (c .before .before .before .before .before .before .before .before .before .before .before .before .before .before .before .before .before .mouse-number .ensures) (let z = c .before .before .before .before .before .before .before .before .before .before .before .before .before .before .before .before .if1 .left in omega arith) bits
 
 pub release-left-spec : {M : Type 1} → statement M
 release-left-spec =
@@ -61,9 +70,12 @@ release-left-spec =
     face-at-requires
     is-number-requires
     returns-3
-    moved-requires
+    cast-rows
+    cast-columns
     wide-requires
     wide-requires-2
+    lone-number-requires
+    moved-requires
     left-number-requires
     same-length
     returns-4)

@@ -1,5 +1,5 @@
 -- `left_click`: not closed, a number, or a 0 or a mine.
-use mathlib.Core.Path.{refl}
+use mathlib.Core.Path.{refl, _∙_}
 use native.Mathlib.Omega.{arith}
 use Rattle.cells.proofs.Grid.{cell-lt}
 use Rattle.clicks.proofs.Steps.{added-laid, added-place, added-room, left-idle, left-closed, number-at}
@@ -31,8 +31,14 @@ face-at-requires c κs = let i = cell-lt (c .before .before .before .before .bef
 is-number-requires : tie.Need-is-number-requires
 is-number-requires c κs = search needs
 
+cast-rows : tie.Need-cast-rows
+cast-rows c = search needs
+
+lone-number-requires : tie.Need-lone-number-requires
+lone-number-requires c κs = let pre = c .before .before .before .before .before .before .before .before .before .pre in let own = c .before .before .before .face-at .ensures in let number = c .before .before .is-number .ensures .yes (c .before .if2 .taken) in (pre .0 .fits .mined, (pre .1 .1, ((λ e. number .0 (own ∙ e)), (λ e. number .1 (own ∙ e)))))
+
 left-number-requires : tie.Need-left-number-requires
-left-number-requires c κs = (number-at _ (c .before .before .before .before .before .before .before .before .before .pre .0) (c .before .before .before .before .before .before .before .before .before .pre .1 .1) (c .before .before .before .before .if1 .left) (c .before .before .before .face-at .ensures) (c .before .before .is-number .ensures .yes (c .before .if2 .taken)), c .before .before .before .before .before .before .before .before .before .pre .1 .0)
+left-number-requires c κs = let pre = c .before .before .before .before .before .before .before .before .before .before .before .pre in (number-at _ (pre .0) (cell-lt _ _ _ _ (pre .1 .1 .0) (pre .1 .1 .1)) (c .before .before .before .before .before .before .if1 .left) (c .before .before .before .before .before .face-at .ensures) (c .before .before .before .before .is-number .ensures .yes (c .before .before .before .if2 .taken)) (c .before .lone-number .ensures), pre .1 .0)
 
 same-length : tie.Need-same-length
 same-length c = search needs
@@ -67,6 +73,8 @@ left-click-spec =
     returns
     face-at-requires
     is-number-requires
+    cast-rows
+    lone-number-requires
     left-number-requires
     same-length
     returns-2
