@@ -1,5 +1,5 @@
-// Plays through the library from C: a book's game that is won, printed as document 01 prints it, a game that is lost, and what is refused.
-// Every number that comes back is held to what it must be; the status is 1 if one is not.
+// Plays through the library from C: a book's game that is won, printed as document 01 prints it, a game that is lost, a board that was typed
+// wrong, and what is refused. Every number that comes back is held to what it must be; the status is 1 if one is not.
 #include <stdio.h>
 #include <stdlib.h>
 #include <string.h>
@@ -12,6 +12,13 @@ static void expect(const char *what, unsigned long got, unsigned long wanted)
         fprintf(stderr, "%s: %lu, not %lu\n", what, got, wanted);
         exit(1);
     }
+}
+
+// A number without a place.
+static void expect_number(const char *what, lm_value got, unsigned long wanted)
+{
+    expect(what, got.number, wanted);
+    expect(what, got.row == LM_NOWHERE && got.column == LM_NOWHERE, 1);
 }
 
 static void expect_position(const char *what, lm_position got, lm_position wanted)
@@ -40,7 +47,7 @@ static lm_answer step(lm_position p, uint8_t code, uint8_t row, uint8_t column)
 static lm_position begin(uint8_t rows, uint8_t columns, const uint8_t *list, size_t length)
 {
     expect("numbering", lm_number_mines(rows, columns, list, length, mines, LM_CELLS(rows, columns)), LM_NOTHING);
-    expect("the board", lm_check_board(rows, columns, mines, LM_CELLS(rows, columns)), LM_NOTHING);
+    expect_number("the board", lm_check_board(rows, columns, mines, LM_CELLS(rows, columns)), LM_NOTHING);
     lm_answer a = lm_setup(rows, columns, 0, 0, mines, LM_CELLS(rows, columns), shown, LM_CELLS(rows, columns), bits, LM_BITS(rows, columns));
     expect("setup", a.number, LM_NOTHING);
     return a.position;
@@ -120,6 +127,21 @@ static void lost(void)
     expect_shown(p, wanted);
 }
 
+// A board that was typed by hand, with one wrong number: the check says which cell.
+static void typed(void)
+{
+    static const int8_t board[] = {0, 0, 0, 0, 2, 1, 0, 1, -1};
+    lm_value v = lm_check_board(3, 3, board, sizeof board);
+    expect("a wrong number", v.number, LM_BAD_COUNT);
+    printf("refused %d: the number in row %d, column %d\n", v.number, v.row, v.column);
+    expect("its row", v.row, 1);
+    expect("its column", v.column, 1);
+    lm_answer a = lm_setup(3, 3, 0, 0, board, sizeof board, shown, LM_CELLS(3, 3), bits, LM_BITS(3, 3));
+    expect("setup with it", a.number, LM_BAD_COUNT);
+    expect("its row", a.row, 1);
+    expect("its column", a.column, 1);
+}
+
 // What is refused comes back as it was given, and nothing is written.
 static void refused(void)
 {
@@ -130,9 +152,9 @@ static void refused(void)
 
     lm_position odd = p;
     odd.game = 9;
-    expect("a game state that means nothing", lm_check_position(odd, MINES(p), SHOWN(p), BITS(p)), LM_UNLAWFUL);
+    expect_number("a game state that means nothing", lm_check_position(odd, MINES(p), SHOWN(p), BITS(p)), LM_UNLAWFUL_STATE);
     lm_answer a = step(odd, LM_LC, 1, 1);
-    expect("a step on it", a.number, LM_UNLAWFUL);
+    expect("a step on it", a.number, LM_UNLAWFUL_STATE);
     expect_position("the position of a refused step", a.position, odd);
     expect("the value of a refused step", a.value, 0);
     odd.rows = 65;
@@ -142,7 +164,7 @@ static void refused(void)
     odd = p;
     odd.middle = 255;
     a = lm_step_game_state(odd, MINES(p), SHOWN(p), BITS(p), 1);
-    expect("a middle button that means nothing", a.number, LM_UNLAWFUL);
+    expect("a middle button that means nothing", a.number, LM_UNLAWFUL_STATE);
     expect_position("the position of a refused game event", a.position, odd);
     a = lm_reset(odd, MINES(p), SHOWN(p), BITS(p));
     expect("reset takes an unlawful position", a.number, LM_NOTHING);
@@ -171,6 +193,7 @@ int main(void)
 {
     won();
     lost();
+    typed();
     refused();
     return 0;
 }

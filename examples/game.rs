@@ -18,6 +18,10 @@ fn by_hand(rows: u8, columns: u8) -> Settings {
     Settings { rows, columns, mode: 0, question: false }
 }
 
+fn at_no_cell(number: u32) -> Refusal {
+    Refusal { number, place: None }
+}
+
 fn won() -> Result<(), Refusal> {
     let mut game = Game::<3, 1, 32>::new(by_hand(1, 3), &[[0, 1]])?;
     let fresh = game.view().settings;
@@ -66,12 +70,15 @@ fn lost() -> Result<(), Refusal> {
 }
 
 fn refused() -> Result<(), Refusal> {
-    assert_eq!(Game::<9, 2, 80>::new(by_hand(65, 3), &[]).err(), Some(Refusal(20)));
-    assert_eq!(Game::<9, 2, 80>::new(by_hand(3, 4), &[]).err(), Some(Refusal(21)));
-    assert_eq!(Game::<9, 2, 80>::new(by_hand(3, 3), &[[1, 1], [1, 1]]).err(), Some(Refusal(42)));
-    assert_eq!(Game::<9, 2, 80>::new(Settings { mode: 6, ..by_hand(3, 3) }, &[]).err(), Some(Refusal(25)));
+    assert_eq!(Game::<9, 2, 80>::new(by_hand(65, 3), &[]).err(), Some(at_no_cell(20)));
+    assert_eq!(Game::<9, 2, 80>::new(by_hand(3, 4), &[]).err(), Some(at_no_cell(21)));
+    assert_eq!(Game::<9, 2, 80>::new(by_hand(3, 3), &[[1, 1], [1, 1]]).err(), Some(at_no_cell(42)));
+    assert_eq!(Game::<9, 2, 80>::new(Settings { mode: 6, ..by_hand(3, 3) }, &[]).err(), Some(at_no_cell(25)));
+    let typed = [0, 0, 0, 0, 2, 1, 0, 1, -1];
+    let wrong = Game::<9, 2, 80>::from_board(by_hand(3, 3), typed).err();
+    assert_eq!(wrong, Some(Refusal { number: 23, place: Some([1, 1]) }));
     let mut game = liftmanger::Expert::new(by_hand(16, 30), &[[0, 0], [15, 29]])?;
-    assert_eq!(game.step(Code::Lc, Pointer::Cell(16, 0)), Err(Refusal(30)));
+    assert_eq!(game.step(Code::Lc, Pointer::Cell(16, 0)), Err(at_no_cell(30)));
     assert_eq!(game.step(Code::Mv, Pointer::Off), Ok(Answer::Nothing));
     assert_eq!(game.view().events, 1);
     game.give_up();

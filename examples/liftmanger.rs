@@ -32,16 +32,23 @@ mod raw {
 
     #[repr(C)]
     pub struct Answer {
-        pub number: u32,
+        pub number: u16,
+        pub row: u8,
+        pub column: u8,
         pub position: Position,
         pub value: u32,
     }
 
     #[repr(C)]
     pub struct Value {
-        pub number: u32,
+        pub number: u16,
+        pub row: u8,
+        pub column: u8,
         pub value: u32,
     }
+
+    /// The row and the column beside a number that has no place.
+    pub const NOWHERE: [u8; 2] = [255, 255];
 
     const _: () = assert!(size_of::<Position>() == 52 && size_of::<Answer>() == 60 && size_of::<Value>() == 8);
 
@@ -120,9 +127,12 @@ mod raw {
     }
 }
 
-/// A refusal's number, 20 and above: see the header.
+/// A refusal's number, 20 and above: see the header. Beside 22 and 23 stands the faulty cell of the mine board, its row and its column.
 #[derive(Clone, Copy, Debug, PartialEq, Eq)]
-pub struct Refusal(pub u32);
+pub struct Refusal {
+    pub number: u32,
+    pub place: Option<[u8; 2]>,
+}
 
 /// What an accepted event answers.
 #[derive(Clone, Copy, Debug, PartialEq, Eq)]
@@ -236,15 +246,29 @@ pub type Largest = Game<2048, 256, 16392>;
 impl<const CELLS: usize, const BITS: usize, const WORK: usize> Game<CELLS, BITS, WORK> {
     /// A new game from a list of mines, row and column each, rising in row order.
     pub fn new(settings: Settings, list: &[[u8; 2]]) -> Result<Self, Refusal> {
+        let mut mines = [0; CELLS];
+        let list = list.as_flattened();
+        // SAFETY: each pointer is to an array or a slice that lives here, beside its length; the written one is this function's own.
+        let number = unsafe {
+            raw::lm_number_mines(
+                settings.rows,
+                settings.columns,
+                list.as_ptr(),
+                list.len(),
+                mines.as_mut_ptr(),
+                mines.len(),
+            )
+        };
+        accepted(number, raw::NOWHERE)?;
+        Self::from_board(settings, mines)
+    }
+
+    /// A new game from a mine board with its numbers, -1 for a mine. A wrong value or number is refused with its place.
+    pub fn from_board(settings: Settings, mines: [i8; CELLS]) -> Result<Self, Refusal> {
         const { assert!(BITS == CELLS.div_ceil(8) && WORK >= 8 * CELLS + 8) }
         let Settings { rows, columns, mode, question } = settings;
-        let (mut mines, mut shown, mut bits) = ([0; CELLS], [0; CELLS], [0; BITS]);
-        let list = list.as_flattened();
-        // SAFETY: each pointer is to an array or a slice that lives here, beside its length; the written ones are this function's own.
-        let number =
-            unsafe { raw::lm_number_mines(rows, columns, list.as_ptr(), list.len(), mines.as_mut_ptr(), mines.len()) };
-        accepted(number)?;
-        // SAFETY: as above.
+        let (mut shown, mut bits) = ([0; CELLS], [0; BITS]);
+        // SAFETY: as in `new`.
         let a = unsafe {
             raw::lm_setup(
                 rows,
@@ -259,7 +283,7 @@ impl<const CELLS: usize, const BITS: usize, const WORK: usize> Game<CELLS, BITS,
                 bits.len(),
             )
         };
-        accepted(a.number)?;
+        accepted(a.number.into(), [a.row, a.column])?;
         Ok(Game { position: a.position, mines, shown, bits, work: [0; WORK] })
     }
 
@@ -413,18 +437,18 @@ impl<const CELLS: usize, const BITS: usize, const WORK: usize> Game<CELLS, BITS,
     /// A refusal gives the position back, so it is taken either way.
     fn take(&mut self, a: raw::Answer) -> Result<Answer, Refusal> {
         self.position = a.position;
-        accepted(a.number)
+        accepted(a.number.into(), [a.row, a.column])
     }
 }
 
-fn accepted(number: u32) -> Result<Answer, Refusal> {
+fn accepted(number: u32, place: [u8; 2]) -> Result<Answer, Refusal> {
     match number {
         0 => Ok(Answer::Nothing),
         1 => Ok(Answer::Flagged),
         2 => Ok(Answer::Opened),
         3 => Ok(Answer::Chorded),
         4 => Ok(Answer::Hit),
-        n => Err(Refusal(n)),
+        number => Err(Refusal { number, place: (place != raw::NOWHERE).then_some(place) }),
     }
 }
 

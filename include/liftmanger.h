@@ -46,6 +46,9 @@ extern "C" {
 
 /* ---- the numbers that come back ---- */
 
+/* The row and the column beside a number that has no place: all but 22 and 23. */
+#define LM_NOWHERE 255
+
 enum lm_number {
     /* Answers. Every call but a step answers 0 where it accepts. */
     LM_NOTHING = 0, /* accepted; of a step: the hand opened nothing and changed no flag */
@@ -57,11 +60,14 @@ enum lm_number {
     /* Refusals, in the order in which they are tested: a number is given exactly when no earlier one applies and */
     LM_BAD_SIZE = 20,        /* a size is outside its limits */
     LM_BAD_LENGTH = 21,      /* a buffer has the wrong length; a row of events ends in the middle of one; a mine list has an odd length */
-    LM_BAD_VALUE = 22,       /* a mine board value is outside -1 to 8 */
-    LM_BAD_COUNT = 23,       /* a safe cell's number is not its count of mine neighbours */
+    LM_BAD_VALUE = 22,       /* a mine board value is outside -1 to 8; row and column say which, the first in row order */
+    LM_BAD_COUNT = 23,       /* a safe cell's number is not its count of mine neighbours; row and column say which, the first in row order */
     LM_NO_SAFE_CELL = 24,    /* no cell is safe */
     LM_BAD_MODE = 25,        /* the mode is not allowed */
-    LM_UNLAWFUL = 26,        /* the position is not one that a game can have, or a state byte of it means nothing */
+    LM_UNLAWFUL_SHOWN = 261, /* the shown board has a value that this game cannot show there */
+    LM_UNLAWFUL_BITS = 262,  /* a bit is set that belongs to no mine */
+    LM_UNLAWFUL_COUNT = 263, /* the flag count is not that of the shown board, or another count is above what events and open cells allow */
+    LM_UNLAWFUL_STATE = 264, /* the position is not one that its game state or mouse state can have, or a state byte of it means nothing */
     LM_BAD_POINTER = 30,     /* the pointer is neither a cell nor exactly (rows, columns) */
     LM_TOO_MANY_EVENTS = 31, /* 65,535 events were accepted */
     LM_BAD_PRE_FLAG = 32,    /* pf in Ready or PreFlaging, off the board or on a cell not showing 10 */
@@ -113,7 +119,8 @@ enum lm_shown { LM_CLOSED = 10, LM_FLAG = 11, LM_WRONG_FLAG = 14, LM_MINE_HIT = 
 /* ---- the position ---- */
 
 /* The position of a game, 52 bytes without padding. setup makes one; a caller keeps it and hands it to the next call. Any bytes are taken:
- * question or middle above 1, game above 4, mouse above 6 or spare not 0 means nothing, and makes the position unlawful, 26. */
+ * question or middle above 1, game above 4, mouse above 6 or spare not 0 means nothing. It is 264, where none of 20 to 263 applies; for them it
+ * is read as the last state, or as 1. */
 typedef struct lm_position {
     uint8_t rows, columns, mode;
     uint8_t question;  /* 1: a flag may become a question mark */
@@ -133,16 +140,18 @@ typedef struct lm_position {
     uint32_t solved_chord; /* 3BV solved by chords */
 } lm_position;
 
-/* A number, the position after the call, and the value asked for, 0 where none is or the call was refused. */
+/* A number, its place, the position after the call, and the value asked for, 0 where none is or the call was refused. */
 typedef struct lm_answer {
-    uint32_t number; /* enum lm_number */
+    uint16_t number;     /* enum lm_number */
+    uint8_t row, column; /* the faulty cell beside 22 and 23, else LM_NOWHERE */
     lm_position position;
     uint32_t value;
 } lm_answer;
 
 /* The answer of a call without a position. */
 typedef struct lm_value {
-    uint32_t number; /* enum lm_number */
+    uint16_t number;     /* enum lm_number */
+    uint8_t row, column; /* as in lm_answer */
     uint32_t value;
 } lm_value;
 
@@ -165,8 +174,8 @@ typedef char lm_book_has_48_bytes[sizeof(lm_book) == 48 ? 1 : -1];
 
 /* ---- the board ---- */
 
-/* The board check: 20 to 24, or 0. */
-uint32_t lm_check_board(uint8_t rows, uint8_t columns, const int8_t *mines, size_t mines_length);
+/* The board check: 20 to 24, or 0. The value is 0. */
+lm_value lm_check_board(uint8_t rows, uint8_t columns, const int8_t *mines, size_t mines_length);
 
 /* Writes the whole mine board, numbered, from a list of mines, a row byte and a column byte each, rising in row order. 20, 21, 42, 24, or 0. */
 uint32_t lm_number_mines(uint8_t rows, uint8_t columns, const uint8_t *list, size_t list_length, int8_t *mines, size_t mines_length);
@@ -192,26 +201,26 @@ lm_answer lm_reset(lm_position position, const int8_t *mines, size_t mines_lengt
 lm_answer lm_step(lm_position position, uint8_t code, uint8_t row, uint8_t column, const int8_t *mines, size_t mines_length, uint8_t *shown,
                   size_t shown_length, uint8_t *bits, size_t bits_length, uint16_t *work, size_t work_length);
 
-/* A row of events, three bytes each: code, row, column. 20 to 26 once, even for none; then the events, up to the first refused one, whose
+/* A row of events, three bytes each: code, row, column. 20 to 264 once, even for none; then the events, up to the first refused one, whose
  * number is answered; 0 where all were accepted. How many were is in position.events. */
 lm_answer lm_step_flow(lm_position position, const uint8_t *events, size_t events_length, const int8_t *mines, size_t mines_length,
                        uint8_t *shown, size_t shown_length, uint8_t *bits, size_t bits_length, uint16_t *work, size_t work_length);
 
-/* 0, "replay", and 1, "fail", give Loss in any state: 20 to 26, or 0. Anything else is 33. It counts no event. */
+/* 0, "replay", and 1, "fail", give Loss in any state: 20 to 264, or 0. Anything else is 33. It counts no event. */
 lm_answer lm_step_game_state(lm_position position, const int8_t *mines, size_t mines_length, const uint8_t *shown, size_t shown_length,
                              const uint8_t *bits, size_t bits_length, uint8_t event);
 
 /* ---- what a position says ---- */
 
-/* The position check: 20 to 26, or 0. */
-uint32_t lm_check_position(lm_position position, const int8_t *mines, size_t mines_length, const uint8_t *shown, size_t shown_length,
+/* The position check: 20 to 264, or 0. The value is 0. */
+lm_value lm_check_position(lm_position position, const int8_t *mines, size_t mines_length, const uint8_t *shown, size_t shown_length,
                            const uint8_t *bits, size_t bits_length);
 
-/* The 3BV solved, solved_left plus solved_chord, as the value: 20 to 26, or 0. A secret. */
+/* The 3BV solved, solved_left plus solved_chord, as the value: 20 to 264, or 0. A secret. */
 lm_answer lm_get_bbbv_solved(lm_position position, const int8_t *mines, size_t mines_length, const uint8_t *shown, size_t shown_length,
                              const uint8_t *bits, size_t bits_length);
 
-/* The 3BV left to solve, the total minus both solved counts or 0, as the value: 20 to 26, or 0. A secret. */
+/* The 3BV left to solve, the total minus both solved counts or 0, as the value: 20 to 264, or 0. A secret. */
 lm_answer lm_left_to_solve(lm_position position, const int8_t *mines, size_t mines_length, const uint8_t *shown, size_t shown_length,
                            const uint8_t *bits, size_t bits_length, uint16_t *work, size_t work_length);
 

@@ -225,22 +225,23 @@ pub fn work(random: &mut Random, position: &Position) -> usize {
 
 /// Changes one thing; what comes out may be unlawful in one way or several, or lawful still.
 pub fn spoil(random: &mut Random, position: &mut Position, lent: &mut Lent) {
-    match random.below(24) {
+    match random.below(26) {
         0 => spoil_size(random, position, lent),
         1 => position.settings.mode = random.pick(&[6, 7, 8, 9, 10, 17, 18, 255]),
-        2 => spoil_number(random, lent),
-        3 => lent.mines = vec![-1; lent.mines.len()],
-        4 => position.settings.question = false,
-        5..=8 => spoil_shown(random, position, lent),
-        9 | 10 => spoil_bits(random, lent),
-        11 => position.flag = near(random, position.flag),
-        12..=14 => spoil_count(random, position),
-        15 => position.double = position.events + near(random, showing(lent, |shown| shown <= 8 || shown == 15)),
-        16 => spoil_solved(random, position, lent),
-        17 => position.events = random.pick(&[0, MOST_EVENTS, MOST_EVENTS + 1]),
-        18 => position.right = 0,
-        19 => position.preflag = near(random, showing(lent, |shown| shown == 11)),
-        20 | 21 => position.mouse = random.pick(&MOUSE_STATES),
+        2 => spoil_cells(random, lent, &[-128, -2, -1, 0, 8, 9, 10, 127]),
+        3 => spoil_cells(random, lent, &[-1, 0, 1, 2, 3, 8]),
+        4 => lent.mines = vec![-1; lent.mines.len()],
+        5 => position.settings.question = false,
+        6..=9 => spoil_shown(random, position, lent),
+        10 | 11 => spoil_bits(random, lent),
+        12 => position.flag = near(random, position.flag),
+        13..=15 => spoil_count(random, position),
+        16 => position.double = position.events + near(random, showing(lent, |shown| shown <= 8 || shown == 15)),
+        17 => spoil_solved(random, position, lent),
+        18 => position.events = random.pick(&[0, MOST_EVENTS, MOST_EVENTS + 1]),
+        19 => position.right = 0,
+        20 => position.preflag = near(random, showing(lent, |shown| shown == 11)),
+        21 | 22 => position.mouse = random.pick(&MOUSE_STATES),
         _ => position.game = random.pick(&GAME_STATES),
     }
 }
@@ -280,9 +281,12 @@ fn any_cell(random: &mut Random, lent: &Lent) -> Option<usize> {
     (!lent.mines.is_empty()).then(|| random.below(lent.mines.len()))
 }
 
-fn spoil_number(random: &mut Random, lent: &mut Lent) {
-    let Some(cell) = any_cell(random, lent) else { return };
-    lent.mines[cell] = random.pick(&[-128, -2, -1, 0, 1, 2, 3, 8, 9, 10, 127]);
+/// Up to three cells, so that the first fault has others after it.
+fn spoil_cells(random: &mut Random, lent: &mut Lent, values: &[i8]) {
+    for _ in 0..random.between(1, 3) {
+        let Some(cell) = any_cell(random, lent) else { return };
+        lent.mines[cell] = random.pick(values);
+    }
 }
 
 /// The flag count follows the new look every second time, so that one fault does not hide behind another.

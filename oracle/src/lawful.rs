@@ -1,4 +1,4 @@
-// The tests 20 to 26 of a position and what is lent with it, written from document 01 alone.
+// The tests 20 to 264 of a position and what is lent with it, written from documents 01 and 02 alone.
 
 use crate::board::{mode_allowed, neighbours, size_allowed};
 use crate::game::MOST_EVENTS;
@@ -7,22 +7,43 @@ use original::{GameBoardState, MouseState};
 
 type Test = fn(&Position, &Lent) -> bool;
 
+/// A number, and for 22 and 23 the row and the column of the first faulty cell.
+pub struct Refusal {
+    pub number: u16,
+    pub place: Option<(usize, usize)>,
+}
+
+impl Refusal {
+    fn nowhere(number: u16) -> Refusal {
+        Refusal { number, place: None }
+    }
+}
+
 /// `work` is how many numbers of work are lent.
-pub fn refusal(position: &Position, lent: &Lent, work: usize) -> Option<u16> {
-    if !size_allowed(position.settings.rows, position.settings.columns) {
-        return Some(20);
+pub fn refusal(position: &Position, lent: &Lent, work: usize) -> Option<Refusal> {
+    let (rows, columns) = (position.settings.rows, position.settings.columns);
+    if !size_allowed(rows, columns) {
+        return Some(Refusal::nowhere(20));
     }
     if !boards_fit(position, lent) || work < work_room(position) {
-        return Some(21);
+        return Some(Refusal::nowhere(21));
     }
-    let tests: [(u16, Test); 5] = [
-        (22, |_, lent| lent.mines.iter().all(|cell| (-1..=8).contains(cell))),
-        (23, numbers_count_mines),
+    let at = |number, cell: usize| Refusal { number, place: Some((cell / columns, cell % columns)) };
+    if let Some(cell) = lent.mines.iter().position(|value| !(-1..=8).contains(value)) {
+        return Some(at(22, cell));
+    }
+    if let Some(cell) = (0..lent.mines.len()).find(|&cell| miscounted(rows, columns, lent, cell)) {
+        return Some(at(23, cell));
+    }
+    let tests: [(u16, Test); 6] = [
         (24, |_, lent| lent.mines.iter().any(|&cell| cell != -1)),
         (25, |position, _| mode_allowed(position.settings.mode)),
-        (26, lawful),
+        (261, shown_values),
+        (262, |_, lent| bits(lent)),
+        (263, counts),
+        (264, states),
     ];
-    tests.iter().find(|(_, passes)| !passes(position, lent)).map(|&(number, _)| number)
+    tests.iter().find(|(_, passes)| !passes(position, lent)).map(|&(number, _)| Refusal::nowhere(number))
 }
 
 fn boards_fit(position: &Position, lent: &Lent) -> bool {
@@ -35,18 +56,11 @@ pub fn work_room(position: &Position) -> usize {
     8 * position.settings.rows * position.settings.columns + 8
 }
 
-fn numbers_count_mines(position: &Position, lent: &Lent) -> bool {
-    let (rows, columns) = (position.settings.rows, position.settings.columns);
-    let mines_around = |cell: usize| {
-        let near = neighbours(rows, columns, (cell / columns, cell % columns));
-        near.filter(|&(row, column)| lent.mines[row * columns + column] == -1).count()
-    };
-    let mut cells = lent.mines.iter().enumerate();
-    cells.all(|(cell, &number)| number == -1 || number as usize == mines_around(cell))
-}
-
-fn lawful(position: &Position, lent: &Lent) -> bool {
-    shown_values(position, lent) && bits(lent) && counts(position, lent) && states(position, lent)
+/// A safe cell whose number is not its count of mine neighbours.
+fn miscounted(rows: usize, columns: usize, lent: &Lent, cell: usize) -> bool {
+    let near = neighbours(rows, columns, (cell / columns, cell % columns));
+    let mines = near.filter(|&(row, column)| lent.mines[row * columns + column] == -1).count();
+    lent.mines[cell] != -1 && lent.mines[cell] as usize != mines
 }
 
 fn shown_values(position: &Position, lent: &Lent) -> bool {

@@ -14,6 +14,7 @@
 // stands as its byte: 254 is -2. The outcome is a line of decimal numbers between single spaces:
 //
 //   answer     0 to 4, or the refusal                                         1 number
+//   place      row and column of the faulty cell, or 255 255                  2 numbers
 //   position   after the step, as above                                       18 numbers
 //   shown      after the step                                                 as many as were lent
 //   bits       after the step                                                 as many as were lent
@@ -28,7 +29,7 @@ use crate::position::{Lent, Position};
 use crate::printout::spaced;
 use crate::random::Random;
 
-/// From lawful positions alone, or from ones that may have been spoiled (20 to 26).
+/// From lawful positions alone, or from ones that may have been spoiled (20 to 264).
 #[derive(Clone, Copy, PartialEq)]
 pub enum Start {
     Lawful,
@@ -56,6 +57,7 @@ pub struct Step {
 /// What a step leaves.
 struct Outcome {
     answer: u16,
+    place: Option<(usize, usize)>,
     position: Position,
     lent: Lent,
 }
@@ -99,13 +101,14 @@ impl Step {
 
     fn played(&self) -> Outcome {
         let Step { position, lent, work, .. } = self;
-        if let Some(answer) = refusal(position, lent, *work) {
-            return Outcome { answer, position: position.clone(), lent: lent.clone() };
+        if let Some(refusal) = refusal(position, lent, *work) {
+            let (position, lent) = (position.clone(), lent.clone());
+            return Outcome { answer: refusal.number, place: refusal.place, position, lent };
         }
         let mut game = Game::from_position(position, lent);
         let [code, row, column] = self.event;
         let answer = game.step(code, row.into(), column.into());
-        Outcome { answer, position: game.position(), lent: game.lent() }
+        Outcome { answer, place: None, position: game.position(), lent: game.lent() }
     }
 
     fn broken_promise(&self, after: &Outcome) -> Option<&'static str> {
@@ -133,7 +136,8 @@ impl Step {
 
 impl Outcome {
     fn numbers(&self) -> Vec<usize> {
-        let mut numbers = vec![self.answer.into()];
+        let (row, column) = self.place.unwrap_or((255, 255));
+        let mut numbers = vec![self.answer.into(), row, column];
         numbers.extend(self.position.numbers());
         extend(&mut numbers, &self.lent.shown);
         extend(&mut numbers, &self.lent.bits);

@@ -17,7 +17,7 @@ use Rattle.rules.specs.Lent.{workRoom, workAfter}
 use Rattle.rules.specs.Clicks.{Desk, Play, desk, done}
 use Rattle.rules.specs.Step.{pointerOf, plainOf, refusalAt, stepAt, stepBy, stepOn}
 use Rattle.rules.specs.Lawful.{lawfulRefusal}
-use Rattle.rules.specs.Calls.{answers, outcome, cellsIn, boardsFit, workFits, positionRefusal, plays, lastPlay, anyAccepted, flowRefusal, flowOf}
+use Rattle.rules.specs.Calls.{answers, refuses, outcome, cellsIn, boardsFit, workFits, positionRefusal, plays, lastPlay, anyAccepted, flowRefusal, flowOf}
 use Rattle.keep.specs.Kept.{LawfulAt}
 use Rattle.cells.proofs.Words.{and-left, and-right}
 use Rattle.keep.proofs.Lawful.{settings-accepted, flow-lawful}
@@ -69,8 +69,8 @@ unfolding plays
 plays-first B code r c es events d k e s l = ap (λ (w : List ℕ). plays B w d) e ∙ rw (s, le-leb 20 k l)
 
 module _ (B : List ℤ) (events : List ℕ) (p : Position) (shown bits work : List ℕ) (n : ℕ) (e : n ≡ flowRefusal B events (desk p shown bits) work) where
-  -- refused by 20 to 26
-  pub flow-unfit : (a : Answer) → (n ≡ 0 → ⊥) → a ≡ answers n p 0 → outcome a shown bits work ≡ flowOf B events (desk p shown bits) work
+  -- refused by 20 to 264
+  pub flow-unfit : (a : Answer) → (n ≡ 0 → ⊥) → a ≡ refuses B p n → outcome a shown bits work ≡ flowOf B events (desk p shown bits) work
   unfolding flowOf
   flow-unfit a z h = rw (← e, ne-eqb n 0 z, h)
 

@@ -15,7 +15,7 @@ use Rattle.rules.specs.Words.{unless}
 use Rattle.rules.specs.Lent.{workRoom, workAfter}
 use Rattle.rules.specs.Clicks.{Desk, Play, desk, done}
 use Rattle.rules.specs.Step.{eventRefusal, stepOn}
-use Rattle.rules.specs.Calls.{answers, outcome, cellsIn, lentRefusal, stepOf}
+use Rattle.rules.specs.Calls.{answers, refuses, outcome, cellsIn, lentRefusal, stepOf}
 use Rattle.keep.specs.Kept.{LawfulAt}
 use Rattle.keep.proofs.Lawful.{lent-lawful}
 use Rattle.keep.proofs.Step.{step-follows}
@@ -26,8 +26,8 @@ use Rattle.game.specs.Core.{playEvent}
 use Rattle.game.proofs.Answers.{event-answers, refusal-refuses, refused-from}
 
 module _ (B : List ℤ) (code r c : ℕ) (p : Position) (shown bits work : List ℕ) (n : ℕ) (e : n ≡ lentRefusal B (desk p shown bits) work) where
-  -- refused by 20 to 26
-  pub step-unfit : (a : Answer) → (n ≡ 0 → ⊥) → a ≡ answers n p 0 → outcome a shown bits work ≡ stepOf B code r c (desk p shown bits) work
+  -- refused by 20 to 264
+  pub step-unfit : (a : Answer) → (n ≡ 0 → ⊥) → a ≡ refuses B p n → outcome a shown bits work ≡ stepOf B code r c (desk p shown bits) work
   unfolding stepOf
   step-unfit a z h = rw (← e, ne-eqb n 0 z, h)
 

@@ -49,7 +49,7 @@ pub fn step(
 {
     let n = refusals::lent_refusal(p, mines, &*shown, &*bits, &*work);
     if n != 0 {
-        return calls::answer(n, p, 0);
+        return refusals::refuse(n, p, mines);
     }
     let s = p.settings;
     let Decoded::At(x) = mouse::decode(s, row, column) else {
@@ -94,7 +94,7 @@ fn flow_number(a: u16) -> u16
     0
 }
 
-// A row of events as a book has them; tests 20 to 26 once, stops at the first refused event and keeps the steps before it.
+// A row of events as a book has them; tests 20 to 264 once, stops at the first refused event and keeps the steps before it.
 pub fn step_flow(
     p: Position,
     events: &[u8],
@@ -107,7 +107,7 @@ pub fn step_flow(
 {
     let refused = refusals::flow_refusal(p, events, mines, &*shown, &*bits, &*work);
     if refused != 0 {
-        return calls::answer(refused, p, 0);
+        return refusals::refuse(refused, p, mines);
     }
     let first = first_refusal(p, events, &*shown);
     if first != 0 {

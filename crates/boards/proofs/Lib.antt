@@ -1,3 +1,4 @@
 pub mod Scans
 pub mod Tests
+pub mod Faults
 pub mod Fresh

@@ -1,4 +1,4 @@
--- What the board check needs of its definitions: products of bytes, the signed tests of a value, numbers by faces and by rows, and the refusals by cases.
+-- What the board check needs of its definitions: products of bytes, the signed tests of a value, numbers by faces, and the refusals by cases.
 use mathlib.Core.Path.{_≡_, refl, ap, ap₂, sym, _∙_}
 use mathlib.Core.Bool.{Bool, true, false, not, false≢true, _&&_, _||_}
 use mathlib.Core.List.{List}
@@ -12,14 +12,12 @@ use lib.Signed.{ltZ}
 use mir.Syntax.{w8}
 use mir.Val.{SFits, toZ, ofZ}
 use mir.ValLaws.{toZ-ofZ}
-use Rattle.rules.specs.Words.{unless, every}
+use Rattle.rules.specs.Words.{unless}
 use Rattle.rules.specs.Grid.{sizeOk, around}
 use Rattle.rules.specs.Board.{face, faceAt, mineAt, valueOk, valuesOk, numberOk, numbersOk, someSafe, boardRefusal}
 use Rattle.cells.specs.Ground.{faceIs, Mined}
 use Rattle.cells.proofs.Face.{values-valued}
 use Rattle.cells.proofs.Grid.{around-same, size-limits}
-use Rattle.boards.specs.Rows.{rowOk}
-use Rattle.boards.proofs.Scans.{every-rows}
 
 -- ---- a value -----------------------------------------------------------------------------------------------------------------------------
 
@@ -71,11 +69,6 @@ module _ (B : List ℤ) (R C i : ℕ) where
       ap₂ eqb e (d ∙ around-same R C (faceIs B 15) (mineAt B) i (mine-face B))
       ∙ sym (ap (λ (b : Bool). b || eqb (faceAt B i) (around R C (mineAt B) i)) (ne-eqb _ _ (λ h. ne (e ∙ h))))
 
--- every row right, every number right
-pub numbers-by-rows : (B : List ℤ) (R C : ℕ) → length B ≡ R * C → every (rowOk B R C) R ≡ numbersOk B R C
-unfolding rowOk numbersOk
-numbers-by-rows B R C long = every-rows (numberOk B R C) R C ∙ ap (every (numberOk B R C)) (sym long)
-
 -- ---- the refusals ------------------------------------------------------------------------------------------------------------------------
 
 -- what a test of the code says of the definition that it answers
@@ -85,9 +78,13 @@ says-no e h = sym e ∙ not-true _ h
 pub says-yes : {r t : Bool} → r ≡ t → not r ≡ false → t ≡ true
 says-yes e h = sym e ∙ not-false _ h
 
+-- rows and columns as the code widens them
 module _ (B : List ℤ) {r c R C : ℕ} (er : r ≡ R) (ec : c ≡ C) where
+  pub mined-wide : Mined B R C → Mined B r c
+  mined-wide m = rw (er, ec) m
+
   pub mined-at : sizeOk R C ≡ true → length B ≡ R * C → valuesOk B ≡ true → Mined B r c
-  mined-at s l v = rw (er, ec) (record { sized = size-limits R C s; long = l; valued = values-valued B v })
+  mined-at s l v = mined-wide (record { sized = size-limits R C s; long = l; valued = values-valued B v })
 
   pub numbers-at : {x : Bool} → x ≡ numbersOk B r c → x ≡ numbersOk B R C
   numbers-at e = e ∙ ap₂ (numbersOk B) er ec

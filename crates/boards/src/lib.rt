@@ -1,16 +1,18 @@
-// The board check, refusals 20 to 24; and the fresh desk.
-// The contracts cite Board and Calls of rules; specs/ has what is said of one row.
+// The board check, refusals 20 to 24, with the cell that is wrong; and the fresh desk.
+// The contracts cite Board and Calls of rules; specs/ has what the search for that cell requires.
 ghost use mathlib.Core.Path.{_≡_};
 ghost use mathlib.Core.Bool.{true};
 ghost use Prim.Native.Nat.{_*_, _<_, _≤_};
 ghost use lib.ListN.{length};
+ghost use Rattle.rules.specs.Words.{firstNot};
 ghost use Rattle.rules.specs.Grid.{cellOf};
-ghost use Rattle.rules.specs.Board.{valueOk, valuesOk, numberOk, numbersOk, someSafe, boardRefusal, boardCheck};
+ghost use Rattle.rules.specs.Board.{valueOk, valueOkAt, valuesOk, numberOk, numbersOk, someSafe, boardRefusal, boardCheck, placeOf, faultOf};
 ghost use Rattle.rules.specs.Lent.{bitBytes};
 ghost use Rattle.rules.specs.Clicks.{desk};
 ghost use Rattle.rules.specs.Calls.{cellsIn, freshDesk};
 ghost use Rattle.cells.specs.Ground.{Valued, Mined};
-ghost use Rattle.boards.specs.Rows.{rowOk};
+ghost use Rattle.boards.specs.Faults.{Placeable};
+use rules::Place;
 use rules::Position;
 use rules::Settings;
 
@@ -33,18 +35,25 @@ fn value_ok(v: i8) -> bool
     true
 }
 
-// 22: every value is -1 to 8. It stops at the first fault in row order.
-pub fn values_ok(mines: &[i8]) -> bool
-    ensures { λ r. ⌜ r ≡ valuesOk (now (mines .entry)) ⌝ }
+// The first cell whose value is not -1 to 8, or the board's length.
+fn value_fault(mines: &[i8]) -> usize
+    ensures { λ r. ⌜ r ≡ firstNot (valueOkAt (now (mines .entry))) (length (now (mines .entry))) ⌝ }
 {
     let mut i = 0;
     while i < mines.len() {
         if !value_ok(mines[i]) {
-            return false;
+            return i;
         }
         i += 1;
     }
-    true
+    i
+}
+
+// 22: every value is -1 to 8.
+fn values_ok(mines: &[i8]) -> bool
+    ensures { λ r. ⌜ r ≡ valuesOk (now (mines .entry)) ⌝ }
+{
+    value_fault(mines) == mines.len()
 }
 
 // A mine, or a number that is its count of mine neighbours.
@@ -61,38 +70,48 @@ fn number_ok(mines: &[i8], rows: usize, columns: usize, row: usize, column: usiz
     f == n
 }
 
-fn row_ok(mines: &[i8], rows: usize, columns: usize, row: usize) -> bool
+// The first column of a row whose number is wrong, or the number of columns.
+fn row_fault(mines: &[i8], rows: usize, columns: usize, row: usize) -> usize
     requires { ⌜ Mined (now mines) rows columns ⌝ }
     requires { ⌜ row < rows ⌝ }
-    ensures { λ r. ⌜ r ≡ rowOk (now (mines .entry)) rows columns row ⌝ }
+    ensures { λ r. ⌜ r ≡ firstNot (λ column. numberOk (now (mines .entry)) rows columns (cellOf columns row column)) columns ⌝ }
 {
     let mut column = 0;
     while column < columns {
         if !number_ok(mines, rows, columns, row, column) {
-            return false;
+            return column;
         }
         column += 1;
     }
-    true
+    column
 }
 
-// 23: every safe cell's number is its count of mine neighbours. It stops at the first fault in row order.
-pub fn numbers_ok(mines: &[i8], rows: usize, columns: usize) -> bool
+// The first safe cell whose number is not its count of mine neighbours, or the board's length.
+fn number_fault(mines: &[i8], rows: usize, columns: usize) -> usize
     requires { ⌜ Mined (now mines) rows columns ⌝ }
-    ensures { λ r. ⌜ r ≡ numbersOk (now (mines .entry)) rows columns ⌝ }
+    ensures { λ r. ⌜ r ≡ firstNot (numberOk (now (mines .entry)) rows columns) (length (now (mines .entry))) ⌝ }
 {
     let mut row = 0;
     while row < rows {
-        if !row_ok(mines, rows, columns, row) {
-            return false;
+        let column = row_fault(mines, rows, columns, row);
+        if column < columns {
+            return row * columns + column;
         }
         row += 1;
     }
-    true
+    mines.len()
+}
+
+// 23: every safe cell's number is its count of mine neighbours.
+fn numbers_ok(mines: &[i8], rows: usize, columns: usize) -> bool
+    requires { ⌜ Mined (now mines) rows columns ⌝ }
+    ensures { λ r. ⌜ r ≡ numbersOk (now (mines .entry)) rows columns ⌝ }
+{
+    number_fault(mines, rows, columns) == mines.len()
 }
 
 // 24: some cell is safe.
-pub fn some_safe(mines: &[i8]) -> bool
+fn some_safe(mines: &[i8]) -> bool
     requires { ⌜ Valued (now mines) ⌝ }
     ensures { λ r. ⌜ r ≡ someSafe (now (mines .entry)) ⌝ }
 {
@@ -135,6 +154,33 @@ pub fn board_check(rows: u8, columns: u8, mines: &[i8]) -> u16
 {
     let fit = mines.len() == cell_count(rows, columns);
     board_refusal(rows, columns, fit, mines)
+}
+
+// The row and the column of a cell.
+fn place_of(columns: u8, cell: usize) -> Place
+    requires { ⌜ (1 ≤ columns) × (cell ≤ 64 * columns) ⌝ }
+    ensures { λ r. ⌜ r ≡ placeOf columns cell ⌝ }
+{
+    let c = cells::wide(columns);
+    let row = (cell / c) as u8;
+    let column = (cell % c) as u8;
+    Place::At { row, column }
+}
+
+// The faulty cell beside 22 and 23. It is searched for again: a board that is accepted pays nothing.
+pub fn fault_of(rows: u8, columns: u8, mines: &[i8], n: u16) -> Place
+    requires { ⌜ Placeable rows columns (now mines) n ⌝ }
+    ensures { λ r. ⌜ r ≡ faultOf rows columns (now (mines .entry)) n ⌝ }
+{
+    if n == 22 {
+        let cell = value_fault(mines);
+        return place_of(columns, cell);
+    }
+    if n == 23 {
+        let cell = number_fault(mines, cells::wide(rows), cells::wide(columns));
+        return place_of(columns, cell);
+    }
+    Place::Nowhere
 }
 
 // The fresh desk: every cell closed, every bit 0, and the position of a game that nobody has touched.

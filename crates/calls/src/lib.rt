@@ -6,19 +6,23 @@ ghost use lib.ListN.{length};
 ghost use Rattle.rules.specs.Lent.{bitBytes, workRoom};
 ghost use Rattle.rules.specs.Calls.{cellsIn, answers, setUp, setupBy};
 ghost use Rattle.cells.specs.Ground.{Mined};
+ghost use Rattle.boards.specs.Faults.{Placeable};
 ghost use Rattle.rules.specs.Promises.{CheckBoardIs, NumberMinesIs, Total3bvIs, SetupIs, ResetIs, CheckPositionIs, StepGameStateIs, BbbvSolvedIs, LeftToSolveIs};
 ghost use Rattle.calls.specs.Parts.{TotalMade};
 use rules::Answer;
 use rules::GameState;
+use rules::Place;
 use rules::Position;
 use rules::Settings;
 use rules::Value;
 
+// An answer that has no place.
 pub fn answer(n: u16, p: Position, v: u32) -> Answer
     ensures { λ r. ⌜ r ≡ answers n p v ⌝ }
 {
     Answer {
         number: n,
+        place: Place::Nowhere,
         position: p,
         value: v,
     }
@@ -27,10 +31,11 @@ pub fn answer(n: u16, p: Position, v: u32) -> Answer
 // ---- the board -------------------------------------------------------------------------------------------------------------------------
 
 // The board check: 20 to 24.
-pub fn check_board(rows: u8, columns: u8, mines: &[i8]) -> u16
+pub fn check_board(rows: u8, columns: u8, mines: &[i8]) -> Value
     ensures { λ r. ⌜ CheckBoardIs rows columns (now (mines .entry)) r ⌝ }
 {
-    boards::board_check(rows, columns, mines)
+    let n = boards::board_check(rows, columns, mines);
+    refusals::found(rows, columns, mines, n)
 }
 
 // Numbering from a mine list, a row byte and a column byte for each mine.
@@ -58,14 +63,12 @@ pub fn total_3bv(rows: u8, columns: u8, mines: &[i8], work: &mut [u16]) -> Value
 {
     let n = refusals::total_refusal(rows, columns, mines, &*work);
     if n != 0 {
-        return Value {
-            number: n,
-            value: 0,
-        };
+        return refusals::found(rows, columns, mines, n);
     }
     let total = total_on(rows, columns, mines, &mut *work);
     Value {
         number: 0,
+        place: Place::Nowhere,
         value: total,
     }
 }
@@ -73,12 +76,20 @@ pub fn total_3bv(rows: u8, columns: u8, mines: &[i8], work: &mut [u16]) -> Value
 // ---- setup and reset -------------------------------------------------------------------------------------------------------------------
 
 // The fresh desk; or refusal n, and the position that it gives back.
-fn set_up(n: u16, otherwise: Position, s: Settings, shown: &mut [u8], bits: &mut [u8]) -> Answer
+fn set_up(
+    n: u16,
+    otherwise: Position,
+    s: Settings,
+    mines: &[i8],
+    shown: &mut [u8],
+    bits: &mut [u8],
+) -> Answer
+    requires { ⌜ Placeable (otherwise .settings .rows) (otherwise .settings .columns) (now mines) n ⌝ }
     requires { ⌜ (n ≡ 0 → (length (now shown) ≡ cellsIn s) × (length (now bits) ≡ bitBytes (cellsIn s))) ⌝ }
-    ensures { λ r. ⌜ setUp r (now (shown .exit)) (now (bits .exit)) ≡ setupBy n otherwise s (now (shown .entry)) (now (bits .entry)) ⌝ }
+    ensures { λ r. ⌜ setUp r (now (shown .exit)) (now (bits .exit)) ≡ setupBy n (now (mines .entry)) otherwise s (now (shown .entry)) (now (bits .entry)) ⌝ }
 {
     if n != 0 {
-        return answer(n, otherwise, 0);
+        return refusals::refuse(n, otherwise, mines);
     }
     let p = boards::fresh_desk(s, &mut *shown, &mut *bits);
     answer(0, p, 0)
@@ -90,7 +101,7 @@ pub fn setup(settings: Settings, mines: &[i8], shown: &mut [u8], bits: &mut [u8]
 {
     let n = refusals::setup_refusal(settings, mines, &*shown, &*bits);
     let p = rules::fresh(settings);
-    set_up(n, p, settings, &mut *shown, &mut *bits)
+    set_up(n, p, settings, mines, &mut *shown, &mut *bits)
 }
 
 // Reset is setup with the position's own settings.
@@ -99,27 +110,26 @@ pub fn reset(p: Position, mines: &[i8], shown: &mut [u8], bits: &mut [u8]) -> An
 {
     let s = p.settings;
     let n = refusals::setup_refusal(s, mines, &*shown, &*bits);
-    set_up(n, p, s, &mut *shown, &mut *bits)
+    set_up(n, p, s, mines, &mut *shown, &mut *bits)
 }
 
 // ---- the position ----------------------------------------------------------------------------------------------------------------------
 
-// The position check: 20 to 26.
-pub fn check_position(p: Position, mines: &[i8], shown: &[u8], bits: &[u8]) -> u16
+// The position check: 20 to 264.
+pub fn check_position(p: Position, mines: &[i8], shown: &[u8], bits: &[u8]) -> Value
     ensures { λ r. ⌜ CheckPositionIs p (now (mines .entry)) (now (shown .entry)) (now (bits .entry)) r ⌝ }
 {
-    let s = p.settings;
-    let fit = refusals::boards_fit(s, mines, shown, bits);
-    refusals::position_refusal(p, mines, shown, bits, fit)
+    let n = refusals::check_refusal(p, mines, shown, bits);
+    refusals::found(p.settings.rows, p.settings.columns, mines, n)
 }
 
 // "replay" is 0 and "fail" 1: both give Loss in any state; anything else is 33. It counts no event.
 pub fn step_game_state(p: Position, mines: &[i8], shown: &[u8], bits: &[u8], event: u8) -> Answer
     ensures { λ r. ⌜ StepGameStateIs p (now (mines .entry)) (now (shown .entry)) (now (bits .entry)) event r ⌝ }
 {
-    let n = check_position(p, mines, shown, bits);
+    let n = refusals::check_refusal(p, mines, shown, bits);
     if n != 0 {
-        return answer(n, p, 0);
+        return refusals::refuse(n, p, mines);
     }
     if 1 < event {
         return answer(33, p, 0);
@@ -139,9 +149,9 @@ fn solved(p: Position) -> u32
 pub fn get_bbbv_solved(p: Position, mines: &[i8], shown: &[u8], bits: &[u8]) -> Answer
     ensures { λ r. ⌜ BbbvSolvedIs p (now (mines .entry)) (now (shown .entry)) (now (bits .entry)) r ⌝ }
 {
-    let n = check_position(p, mines, shown, bits);
+    let n = refusals::check_refusal(p, mines, shown, bits);
     if n != 0 {
-        return answer(n, p, 0);
+        return refusals::refuse(n, p, mines);
     }
     let both = solved(p);
     answer(0, p, both)
@@ -169,7 +179,7 @@ pub fn left_to_solve(
 {
     let n = refusals::lent_refusal(p, mines, shown, bits, &*work);
     if n != 0 {
-        return answer(n, p, 0);
+        return refusals::refuse(n, p, mines);
     }
     let total = total_on(p.settings.rows, p.settings.columns, mines, &mut *work);
     let both = solved(p);

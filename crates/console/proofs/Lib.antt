@@ -1,4 +1,4 @@
-pub mod Unclear
+pub mod Faults
 pub mod Making
 pub mod Outcomes
 pub mod Places

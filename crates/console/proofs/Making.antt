@@ -1,116 +1,119 @@
--- What each call answers for a flat position, from what board's call leaves for the position that it is read as. One law serves every call
--- on a position: where the bytes mean something the outcome is board's; where one does not, board refuses, and the flat position goes back.
-use mathlib.Core.Path.{_≡_, refl, ap, ap₂, sym, _∙_}
-use mathlib.Core.Bool.{Bool, true, false, _&&_}
+-- What each call answers for a flat position: where the bytes mean something, the flat form of what board's call leaves; where one does not, the
+-- refusal of the position that is read, and the flat position goes back.
+use mathlib.Core.Path.{_≡_, ap, sym, _∙_}
+use mathlib.Core.Bool.{Bool, true, false}
 use mathlib.Core.List.{List, [], _∷_}
-use Prim.Native.Nat.{ℕ, _%_}
+use Prim.Native.Nat.{ℕ}
 use borrow.Author.Tests.{eq-eqb, ne-eqb}
-use lib.Dec.{eqb}
-use lib.ListN.{length}
 use lib.IntN.{ℤ}
+use Rattle.rules.specs.declared.Place.{Place}
 use Rattle.rules.specs.declared.Settings.{Settings}
 use Rattle.rules.specs.declared.Position.{Position}
 use Rattle.rules.specs.declared.Answer.{Answer}
 use Rattle.rules.specs.declared.Value.{Value}
 use Rattle.rules.specs.Words.{pick}
-use Rattle.rules.specs.States.{withEvents}
+use Rattle.rules.specs.Board.{faultOf}
 use Rattle.rules.specs.Clicks.{desk}
-use Rattle.rules.specs.Calls.{Outcome, Asked, boardsFit, workFits, answers, outcome, refused, setUp, setupOf, resetOf, stepOf, flowOf, gameStateOf, bbbvSolvedOf, leftToSolveOf, totalOf, positionCheck}
+use Rattle.rules.specs.Calls.{checks, outcome, setUp, setupOf, resetOf, stepOf, flowOf, gameStateOf, bbbvSolvedOf, leftToSolveOf, totalOf, positionCheck, positionCheckOf, lentRefusal, flowRefusal}
 use Rattle.rules.specs.Promises.{asks, totals}
-use Rattle.board.proofs.Outcomes.{step-refused, flow-refused, step-game-state-refused, bbbv-solved-refused, left-to-solve-refused}
 use Rattle.flats.specs.declared.FlatPosition.{FlatPosition}
 use Rattle.flats.specs.declared.FlatAnswer.{FlatAnswer}
 use Rattle.flats.specs.declared.FlatValue.{FlatValue}
-use Rattle.flats.specs.Flat.{means, settingsOf, settingsIn, positionIn, gives, flatAnswer}
-use Rattle.flats.specs.Parts.{readOf, answeredOf}
-use Rattle.console.specs.Promises.{leaves, unclear, flatSetUp, resetOr, flatTotalled, setupFlat, resetFlat, stepFlat, flowFlat, positionFlat, gameStateFlat, bbbvSolvedFlat, leftFlat}
-use Rattle.flats.proofs.Reading.{read-meant, read-unclear, answered-meant, answered-unclear}
-use Rattle.console.proofs.Unclear.{unclear-refuses, unclear-check, unclear-lent, unclear-flow}
+use Rattle.flats.specs.Flat.{means, settingsOf, positionIn, gives, flatAnswer, flatValue}
+use Rattle.console.specs.Promises.{leaves, unclear, refusesFlat, flatOutcome, flatAsked, flatSetUp, resetOr, flatTotalled, setupFlat, resetFlat, stepFlat, flowFlat, positionFlat, gameStateFlat, bbbvSolvedFlat, leftFlat}
 
--- ---- one law for every call on a position ----------------------------------------------------------------------------------------------
+-- ---- the two cases ---------------------------------------------------------------------------------------------------------------------
 
--- board's outcome x of a call on p has an answer; `flat` puts a flat answer in its place. `no` is what board leaves for an unlawful position.
-module _ {X Y : Type 0} (answer : X → Answer) (flat : FlatAnswer → X → Y) (call : Position → X) (f : FlatPosition) (no : X) where
-  pub by-meaning : (p : Position) (x : X) (r : FlatAnswer) → p ≡ readOf f → x ≡ call p → r ≡ answeredOf f (answer x) → call (withEvents (positionIn f) 65536) ≡ no
-      → flat r x ≡ pick (means f) (flat (flatAnswer (answer (call (positionIn f)))) (call (positionIn f))) (flat (gives (answer no .number) f 0) no)
-  by-meaning p x r ep ex er en = go (means f) refl
-    where
-      go : (b : Bool) → means f ≡ b → flat r x ≡ pick b (flat (flatAnswer (answer (call (positionIn f)))) (call (positionIn f))) (flat (gives (answer no .number) f 0) no)
-      go true m =
-          let e : x ≡ call (positionIn f) = ex ∙ ap call (ep ∙ read-meant f m) in
-          ap₂ flat (er ∙ answered-meant f (answer x) m ∙ ap (λ (y : X). flatAnswer (answer y)) e) e
-      go false m =
-          let e : x ≡ no = ex ∙ ap call (ep ∙ read-unclear f m) ∙ en in
-          ap₂ flat (er ∙ answered-unclear f (answer x) m ∙ ap (λ (y : X). gives (answer y .number) f 0) e) e
+-- t is what the code has found of `means f`
+module _ {A : Type 0} (f : FlatPosition) (t : Bool) (et : t ≡ means f) (x y : A) where
+  meant : t ≡ true → x ≡ pick (means f) x y
+  meant m = ap (λ (b : Bool). pick b x y) (sym m ∙ et)
+
+  unmeant : t ≡ false → y ≡ pick (means f) x y
+  unmeant m = ap (λ (b : Bool). pick b x y) (sym m ∙ et)
+
+-- the refused answer, whose number m and place x the code has found from n
+pub refused-flat : (B : List ℤ) (f : FlatPosition) (n m : ℕ) (x : Place) (r : FlatAnswer) → m ≡ unclear n → x ≡ faultOf (f .rows) (f .columns) B m → r ≡ gives m x f 0
+    → r ≡ refusesFlat B f (unclear n)
+refused-flat B f n m x r em ex er = er ∙ ap (λ (y : Place). gives m y f 0) ex ∙ ap (refusesFlat B f) em
 
 -- ---- the calls on a position -----------------------------------------------------------------------------------------------------------
 
-module _ (B : List ℤ) (f : FlatPosition) (shown bits : List ℕ) where
-  abbrev odd : Position
-  odd = withEvents (positionIn f) 65536
+module _ (B : List ℤ) (f : FlatPosition) (shown bits : List ℕ) (p : Position) (ep : p ≡ positionIn f) (t : Bool) (et : t ≡ means f) where
+  module _ (a : Answer) (r : FlatAnswer) (er : r ≡ flatAnswer a) (m : t ≡ true) where
+    pub step-flat : (code x y : ℕ) (work shown′ bits′ work′ : List ℕ) → outcome a shown′ bits′ work′ ≡ stepOf B code x y (desk p shown bits) work
+        → leaves r (shown′ ∷ bits′ ∷ work′ ∷ []) ≡ stepFlat B code x y f shown bits work
+    unfolding stepFlat
+    step-flat code x y work shown′ bits′ work′ h =
+        ap (λ (q : FlatAnswer). leaves q (shown′ ∷ bits′ ∷ work′ ∷ [])) er
+        ∙ ap flatOutcome (h ∙ ap (λ (q : Position). stepOf B code x y (desk q shown bits) work) ep) ∙ meant f t et _ _ m
 
-  lent-refuses : (work : List ℕ) → unclear (boardsFit (settingsIn f) B shown bits && workFits (settingsIn f) work) B f ≡ 0 → ⊥
-  lent-refuses work = unclear-refuses (boardsFit (settingsIn f) B shown bits && workFits (settingsIn f) work) B f
+    pub flow-flat : (events work shown′ bits′ work′ : List ℕ) → outcome a shown′ bits′ work′ ≡ flowOf B events (desk p shown bits) work
+        → leaves r (shown′ ∷ bits′ ∷ work′ ∷ []) ≡ flowFlat B events f shown bits work
+    unfolding flowFlat
+    flow-flat events work shown′ bits′ work′ h =
+        ap (λ (q : FlatAnswer). leaves q (shown′ ∷ bits′ ∷ work′ ∷ [])) er
+        ∙ ap flatOutcome (h ∙ ap (λ (q : Position). flowOf B events (desk q shown bits) work) ep) ∙ meant f t et _ _ m
 
-  step-odd : (code x y : ℕ) (work : List ℕ)
-      → stepOf B code x y (desk odd shown bits) work ≡ refused (unclear (boardsFit (settingsIn f) B shown bits && workFits (settingsIn f) work) B f) (desk odd shown bits) work
-  step-odd code x y work =
-      let e = unclear-lent B f shown bits work in
-      step-refused B (desk odd shown bits) work code x y (λ z. lent-refuses work (sym e ∙ z)) ∙ ap (λ (n : ℕ). refused n (desk odd shown bits) work) e
+    pub left-flat : (work work′ : List ℕ) → asks a work′ ≡ leftToSolveOf B (desk p shown bits) work → leaves r (work′ ∷ []) ≡ leftFlat B f shown bits work
+    unfolding leftFlat
+    left-flat work work′ h =
+        ap (λ (q : FlatAnswer). leaves q (work′ ∷ [])) er
+        ∙ ap flatAsked (h ∙ ap (λ (q : Position). leftToSolveOf B (desk q shown bits) work) ep) ∙ meant f t et _ _ m
 
-  flow-odd : (events work : List ℕ)
-      → flowOf B events (desk odd shown bits) work
-      ≡ refused (unclear (boardsFit (settingsIn f) B shown bits && (workFits (settingsIn f) work && eqb (length events % 3) 0)) B f) (desk odd shown bits) work
-  flow-odd events work =
-      let e = unclear-flow B f shown bits events work in
-      flow-refused B (desk odd shown bits) work events (λ z. unclear-refuses _ B f (sym e ∙ z)) ∙ ap (λ (n : ℕ). refused n (desk odd shown bits) work) e
+    pub state-flat : (event : ℕ) → a ≡ gameStateOf B event (desk p shown bits) → r ≡ gameStateFlat B event f shown bits
+    unfolding gameStateFlat
+    state-flat event h = er ∙ ap flatAnswer (h ∙ ap (λ (q : Position). gameStateOf B event (desk q shown bits)) ep) ∙ meant f t et _ _ m
 
-  check-refuses : positionCheck B (desk odd shown bits) ≡ 0 → ⊥
-  check-refuses z = unclear-refuses (boardsFit (settingsIn f) B shown bits) B f (sym (unclear-check B f shown bits) ∙ z)
+    pub solved-flat : a ≡ bbbvSolvedOf B (desk p shown bits) → r ≡ bbbvSolvedFlat B f shown bits
+    unfolding bbbvSolvedFlat
+    solved-flat h = er ∙ ap flatAnswer (h ∙ ap (λ (q : Position). bbbvSolvedOf B (desk q shown bits)) ep) ∙ meant f t et _ _ m
 
-  module _ (p : Position) (ep : p ≡ readOf f) where
-    pub position-flat : (n r : ℕ) → n ≡ positionCheck B (desk p shown bits) → r ≡ n → r ≡ positionFlat B f shown bits
+  -- refused, with the number n of the position that is read
+  module _ (n : ℕ) (r : FlatAnswer) (er : r ≡ refusesFlat B f (unclear n)) (m : t ≡ false) where
+    read-as : (k : ℕ) → n ≡ k → r ≡ refusesFlat B f (unclear k)
+    read-as k e = er ∙ ap (λ (i : ℕ). refusesFlat B f (unclear i)) e
+
+    pub step-unclear : (code x y : ℕ) (work : List ℕ) → n ≡ lentRefusal B (desk p shown bits) work
+        → leaves r (shown ∷ bits ∷ work ∷ []) ≡ stepFlat B code x y f shown bits work
+    unfolding stepFlat
+    step-unclear code x y work h =
+        ap (λ (q : FlatAnswer). leaves q (shown ∷ bits ∷ work ∷ [])) (read-as _ (h ∙ ap (λ (q : Position). lentRefusal B (desk q shown bits) work) ep)) ∙ unmeant f t et _ _ m
+
+    pub flow-unclear : (events work : List ℕ) → n ≡ flowRefusal B events (desk p shown bits) work
+        → leaves r (shown ∷ bits ∷ work ∷ []) ≡ flowFlat B events f shown bits work
+    unfolding flowFlat
+    flow-unclear events work h =
+        ap (λ (q : FlatAnswer). leaves q (shown ∷ bits ∷ work ∷ [])) (read-as _ (h ∙ ap (λ (q : Position). flowRefusal B events (desk q shown bits) work) ep)) ∙ unmeant f t et _ _ m
+
+    pub left-unclear : (work : List ℕ) → n ≡ lentRefusal B (desk p shown bits) work → leaves r (work ∷ []) ≡ leftFlat B f shown bits work
+    unfolding leftFlat
+    left-unclear work h =
+        ap (λ (q : FlatAnswer). leaves q (work ∷ [])) (read-as _ (h ∙ ap (λ (q : Position). lentRefusal B (desk q shown bits) work) ep)) ∙ unmeant f t et _ _ m
+
+    pub state-unclear : (event : ℕ) → n ≡ positionCheck B (desk p shown bits) → r ≡ gameStateFlat B event f shown bits
+    unfolding gameStateFlat
+    state-unclear event h = read-as _ (h ∙ ap (λ (q : Position). positionCheck B (desk q shown bits)) ep) ∙ unmeant f t et _ _ m
+
+    pub solved-unclear : n ≡ positionCheck B (desk p shown bits) → r ≡ bbbvSolvedFlat B f shown bits
+    unfolding bbbvSolvedFlat
+    solved-unclear h = read-as _ (h ∙ ap (λ (q : Position). positionCheck B (desk q shown bits)) ep) ∙ unmeant f t et _ _ m
+
+  -- the position check: its number, and with it the place
+  module _ (v : Value) (r : FlatValue) (er : r ≡ flatValue v) where
+    abbrev checked : ℕ → FlatValue
+    checked k = flatValue (checks (f .rows) (f .columns) B k)
+
+    pub position-flat : t ≡ true → v ≡ positionCheckOf B (desk p shown bits) → r ≡ checked (positionFlat B f shown bits)
     unfolding positionFlat
-    position-flat n r h e = go (means f) refl
-      where
-        go : (b : Bool) → means f ≡ b → r ≡ pick b (positionCheck B (desk (positionIn f) shown bits)) (unclear (boardsFit (settingsIn f) B shown bits) B f)
-        go true m = e ∙ h ∙ ap (λ (q : Position). positionCheck B (desk q shown bits)) (ep ∙ read-meant f m)
-        go false m = e ∙ h ∙ ap (λ (q : Position). positionCheck B (desk q shown bits)) (ep ∙ read-unclear f m) ∙ unclear-check B f shown bits
+    position-flat m h =
+        er ∙ ap flatValue (h ∙ ap (λ (q : Position). positionCheckOf B (desk q shown bits)) ep) ∙ ap checked (meant f t et _ _ m)
 
-    module _ (a : Answer) (r : FlatAnswer) (er : r ≡ answeredOf f a) where
-      pub step-flat : (code x y : ℕ) (work shown′ bits′ work′ : List ℕ) → outcome a shown′ bits′ work′ ≡ stepOf B code x y (desk p shown bits) work
-          → leaves r (shown′ ∷ bits′ ∷ work′ ∷ []) ≡ stepFlat B code x y f shown bits work
-      unfolding stepFlat
-      step-flat code x y work shown′ bits′ work′ h =
-          by-meaning (λ (o : Outcome). o .answer) (λ (t : FlatAnswer) (o : Outcome). leaves t (o .shown ∷ o .bits ∷ o .work ∷ []))
-          (λ (q : Position). stepOf B code x y (desk q shown bits) work) f _ p _ r ep h er (step-odd code x y work)
-
-      pub flow-flat : (events work shown′ bits′ work′ : List ℕ) → outcome a shown′ bits′ work′ ≡ flowOf B events (desk p shown bits) work
-          → leaves r (shown′ ∷ bits′ ∷ work′ ∷ []) ≡ flowFlat B events f shown bits work
-      unfolding flowFlat
-      flow-flat events work shown′ bits′ work′ h =
-          by-meaning (λ (o : Outcome). o .answer) (λ (t : FlatAnswer) (o : Outcome). leaves t (o .shown ∷ o .bits ∷ o .work ∷ []))
-          (λ (q : Position). flowOf B events (desk q shown bits) work) f _ p _ r ep h er (flow-odd events work)
-
-      pub left-flat : (work work′ : List ℕ) → asks a work′ ≡ leftToSolveOf B (desk p shown bits) work → leaves r (work′ ∷ []) ≡ leftFlat B f shown bits work
-      unfolding leftFlat
-      left-flat work work′ h =
-          let e = unclear-lent B f shown bits work in
-          by-meaning (λ (o : Asked). o .answer) (λ (t : FlatAnswer) (o : Asked). leaves t (o .work ∷ []))
-          (λ (q : Position). leftToSolveOf B (desk q shown bits) work) f _ p _ r ep h er
-          (left-to-solve-refused B (desk odd shown bits) work (λ z. lent-refuses work (sym e ∙ z)) ∙ ap (λ (n : ℕ). asks (answers n odd 0) work) e)
-
-      pub state-flat : (event : ℕ) → a ≡ gameStateOf B event (desk p shown bits) → r ≡ gameStateFlat B event f shown bits
-      unfolding gameStateFlat
-      state-flat event h =
-          by-meaning (λ (o : Answer). o) (λ (t : FlatAnswer) (o : Answer). t) (λ (q : Position). gameStateOf B event (desk q shown bits)) f _ p _ r ep h er
-          (step-game-state-refused B (desk odd shown bits) check-refuses event ∙ ap (λ (n : ℕ). answers n odd 0) (unclear-check B f shown bits))
-
-      pub solved-flat : a ≡ bbbvSolvedOf B (desk p shown bits) → r ≡ bbbvSolvedFlat B f shown bits
-      unfolding bbbvSolvedFlat
-      solved-flat h =
-          by-meaning (λ (o : Answer). o) (λ (t : FlatAnswer) (o : Answer). t) (λ (q : Position). bbbvSolvedOf B (desk q shown bits)) f _ p _ r ep h er
-          (bbbv-solved-refused B (desk odd shown bits) check-refuses ∙ ap (λ (n : ℕ). answers n odd 0) (unclear-check B f shown bits))
+    pub position-unclear : (n k : ℕ) → t ≡ false → n ≡ positionCheck B (desk p shown bits) → k ≡ unclear n → v ≡ checks (f .rows) (f .columns) B k
+        → r ≡ checked (positionFlat B f shown bits)
+    unfolding positionFlat
+    position-unclear n k m h ek ev =
+        er ∙ ap flatValue ev ∙ ap checked (ek ∙ ap unclear (h ∙ ap (λ (q : Position). positionCheck B (desk q shown bits)) ep) ∙ unmeant f t et _ _ m)
 
 -- ---- the calls without one, and reset --------------------------------------------------------------------------------------------------
 
@@ -130,10 +133,9 @@ module _ (B : List ℤ) (f : FlatPosition) (shown bits : List ℕ) (p : Position
   pub reset-flat : (r : FlatAnswer) → r ≡ flatAnswer a → a .number ≡ 0 → leaves r (shown′ ∷ bits′ ∷ []) ≡ resetFlat B f shown bits
   reset-flat r er z = ap (λ (t : FlatAnswer). leaves t (shown′ ∷ bits′ ∷ [])) er ∙ sym (simp (eq-eqb _ _ z)) ∙ reset-as
 
-  pub reset-back : (r : FlatAnswer) → r ≡ gives (a .number) f 0 → (a .number ≡ 0 → ⊥) → leaves r (shown′ ∷ bits′ ∷ []) ≡ resetFlat B f shown bits
+  pub reset-back : (r : FlatAnswer) → r ≡ gives (a .number) (a .place) f 0 → (a .number ≡ 0 → ⊥) → leaves r (shown′ ∷ bits′ ∷ []) ≡ resetFlat B f shown bits
   reset-back r er z = ap (λ (t : FlatAnswer). leaves t (shown′ ∷ bits′ ∷ [])) er ∙ sym (simp (ne-eqb _ _ z)) ∙ reset-as
 
-pub total-flat : (rows columns : ℕ) (B : List ℤ) (work : List ℕ) (v : Value) (n : ℕ) (work′ : List ℕ) → n ≡ v .number → totals v work′ ≡ totalOf rows columns B work
-    → leaves {A = FlatValue} (record { number = n; value = v .value }) (work′ ∷ []) ≡ flatTotalled (totalOf rows columns B work)
-total-flat rows columns B work v n work′ en h =
-    ap (λ (m : ℕ). leaves {A = FlatValue} (record { number = m; value = v .value }) (work′ ∷ [])) en ∙ ap flatTotalled h
+pub total-flat : (rows columns : ℕ) (B : List ℤ) (work : List ℕ) (v : Value) (r : FlatValue) (work′ : List ℕ) → r ≡ flatValue v → totals v work′ ≡ totalOf rows columns B work
+    → leaves r (work′ ∷ []) ≡ flatTotalled (totalOf rows columns B work)
+total-flat rows columns B work v r work′ er h = ap (λ (q : FlatValue). leaves q (work′ ∷ [])) er ∙ ap flatTotalled h

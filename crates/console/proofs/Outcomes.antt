@@ -1,5 +1,5 @@
--- One outcome for every input: any two outcomes that a call's promise allows are equal, answer, flat position, value and every lent list.
--- For the board check and numbering that is board's own theorem: their promises are board's.
+-- One outcome for every input: any two outcomes that a call's promise allows are equal, number, place, flat position, value and every lent list.
+-- For numbering that is board's own theorem: its promise is board's.
 use mathlib.Core.Path.{_≡_, ap}
 use mathlib.Core.List.{List, [], _∷_}
 use Prim.Native.Nat.{ℕ}
@@ -9,7 +9,7 @@ use Rattle.flats.specs.declared.FlatPosition.{FlatPosition}
 use Rattle.flats.specs.declared.FlatAnswer.{FlatAnswer}
 use Rattle.flats.specs.declared.FlatValue.{FlatValue}
 use Rattle.flats.specs.declared.FlatBook.{FlatBook}
-use Rattle.console.specs.Promises.{Leaves, leaves, SetupIs, ResetIs, StepIs, StepFlowIs, CheckPositionIs, StepGameStateIs, BbbvSolvedIs, LeftToSolveIs, Total3bvIs, ReadBookIs}
+use Rattle.console.specs.Promises.{Leaves, leaves, CheckBoardIs, SetupIs, ResetIs, StepIs, StepFlowIs, CheckPositionIs, StepGameStateIs, BbbvSolvedIs, LeftToSolveIs, Total3bvIs, ReadBookIs}
 
 -- the law for all calls with lent lists: both answers are the same, and so are all the lists
 leaves-one : {A : Type 0} {o : Leaves A} {r q : A} {ls ms : List (List ℕ)} → leaves r ls ≡ o → leaves q ms ≡ o → (r ≡ q) × (ls ≡ ms)
@@ -39,7 +39,7 @@ module _ (B : List ℤ) (shown bits : List ℕ) where
         → (r ≡ q) × ((work′ ∷ []) ≡ (work″ ∷ []))
     left-to-solve-one work r q work′ work″ h k = leaves-one h k
 
-    pub check-position-one : (r q : ℕ) → CheckPositionIs f B shown bits r → CheckPositionIs f B shown bits q → r ≡ q
+    pub check-position-one : (r q : FlatValue) → CheckPositionIs f B shown bits r → CheckPositionIs f B shown bits q → r ≡ q
     check-position-one r q h k = one h k
 
     pub step-game-state-one : (event : ℕ) (r q : FlatAnswer) → StepGameStateIs f B shown bits event r → StepGameStateIs f B shown bits event q → r ≡ q
@@ -47,6 +47,9 @@ module _ (B : List ℤ) (shown bits : List ℕ) where
 
     pub bbbv-solved-one : (r q : FlatAnswer) → BbbvSolvedIs f B shown bits r → BbbvSolvedIs f B shown bits q → r ≡ q
     bbbv-solved-one r q h k = one h k
+
+pub check-board-one : (rows columns : ℕ) (B : List ℤ) (r q : FlatValue) → CheckBoardIs rows columns B r → CheckBoardIs rows columns B q → r ≡ q
+check-board-one rows columns B r q h k = one h k
 
 pub total-3bv-one : (rows columns : ℕ) (B : List ℤ) (work : List ℕ) (r q : FlatValue) (work′ work″ : List ℕ) → Total3bvIs rows columns B work r work′
     → Total3bvIs rows columns B work q work″ → (r ≡ q) × ((work′ ∷ []) ≡ (work″ ∷ []))

@@ -1,22 +1,22 @@
 -- What each exported call promises of its outcome, over the flat position: one equation with rules' definition of the call on the position
--- that the bytes mean; where a state byte means nothing, the first of 20 to 25, else 26, the position as given, and nothing written.
--- A list with a prime is what stands in the lent memory after the call. The board check and numbering promise what board's do.
+-- that the bytes mean; where a state byte means nothing, the call's refusal of what the bytes are read as, else 264, the position as given, and
+-- nothing written.
+-- A list with a prime is what stands in the lent memory after the call. Numbering promises what board's does.
 use mathlib.Core.Path.{_≡_}
-use mathlib.Core.Bool.{Bool, _&&_}
 use mathlib.Core.List.{List, [], _∷_}
-use Prim.Native.Nat.{ℕ, _%_}
+use Prim.Native.Nat.{ℕ}
 use lib.Dec.{eqb}
-use lib.ListN.{length}
 use lib.IntN.{ℤ}
 use Rattle.rules.specs.Words.{pick}
+use Rattle.rules.specs.Board.{faultOf}
 use Rattle.rules.specs.Clicks.{desk}
-use Rattle.rules.specs.Calls.{Outcome, SetUp, Asked, Totalled, boardsFit, workFits, settingsRefusal, setupOf, resetOf, stepOf, flowOf, gameStateOf, bbbvSolvedOf, leftToSolveOf, totalOf, positionCheck}
+use Rattle.rules.specs.Calls.{Outcome, SetUp, Asked, Totalled, checks, boardCheckOf, positionCheck, lentRefusal, flowRefusal, setupOf, resetOf, stepOf, flowOf, gameStateOf, bbbvSolvedOf, leftToSolveOf, totalOf}
 use Rattle.rules.specs.Book.{bookOf}
 use Rattle.flats.specs.declared.FlatPosition.{FlatPosition}
 use Rattle.flats.specs.declared.FlatAnswer.{FlatAnswer}
 use Rattle.flats.specs.declared.FlatValue.{FlatValue}
 use Rattle.flats.specs.declared.FlatBook.{FlatBook}
-use Rattle.flats.specs.Flat.{means, settingsOf, settingsIn, positionIn, gives, flatAnswer, flatValue, flatBook}
+use Rattle.flats.specs.Flat.{means, settingsOf, positionIn, gives, flatAnswer, flatValue, flatBook}
 
 -- an outcome: what is answered, and what the lent lists are then, in the order of the call
 pub record Leaves (A : Type 0) : Type 0 where
@@ -28,22 +28,26 @@ leaves a ls = record { answer = a; lent = ls }
 
 -- ---- a state byte that means nothing ---------------------------------------------------------------------------------------------------
 
--- 20 to 25, where `fit` says that every buffer has the right length, else 26
-unfoldable pub unclear : Bool → List ℤ → FlatPosition → ℕ
-unclear fit B f = settingsRefusal (settingsIn f) fit B 26
+-- the refusal n of what the bytes are read as, or 264 where that is 0
+abbrev pub unclear : ℕ → ℕ
+unclear n = pick (eqb n 0) 264 n
+
+-- a refusal gives the flat position back as it was given, and beside 22 and 23 the faulty cell of the board
+abbrev pub refusesFlat : List ℤ → FlatPosition → ℕ → FlatAnswer
+refusesFlat B f n = gives n (faultOf (f .rows) (f .columns) B n) f 0
 
 -- ---- setup and reset -------------------------------------------------------------------------------------------------------------------
 
 abbrev pub flatSetUp : SetUp → Leaves FlatAnswer
 flatSetUp o = leaves (flatAnswer (o .answer)) (o .shown ∷ o .bits ∷ [])
 
--- setup and reset test 20 to 25: of the question byte they ask only whether it is 0
+-- setup and reset test 20 to 25, and never answer 264: of the question byte they ask only whether it is 0
 unfoldable pub setupFlat : ℕ → ℕ → ℕ → ℕ → List ℤ → List ℕ → List ℕ → Leaves FlatAnswer
 setupFlat rows columns mode question B shown bits = flatSetUp (setupOf (settingsOf rows columns mode question) B shown bits)
 
 -- a refusal gives the flat position back as it was given
 abbrev pub resetOr : FlatPosition → SetUp → Leaves FlatAnswer
-resetOr f o = pick (eqb (o .answer .number) 0) (flatSetUp o) (leaves (gives (o .answer .number) f 0) (o .shown ∷ o .bits ∷ []))
+resetOr f o = pick (eqb (o .answer .number) 0) (flatSetUp o) (leaves (gives (o .answer .number) (o .answer .place) f 0) (o .shown ∷ o .bits ∷ []))
 
 unfoldable pub resetFlat : List ℤ → FlatPosition → List ℕ → List ℕ → Leaves FlatAnswer
 resetFlat B f shown bits = resetOr f (resetOf B (desk (positionIn f) shown bits))
@@ -57,26 +61,31 @@ unfoldable pub stepFlat : List ℤ → ℕ → ℕ → ℕ → FlatPosition → 
 stepFlat B code r c f shown bits work =
     pick (means f)
     (flatOutcome (stepOf B code r c (desk (positionIn f) shown bits) work))
-    (leaves (gives (unclear (boardsFit (settingsIn f) B shown bits && workFits (settingsIn f) work) B f) f 0) (shown ∷ bits ∷ work ∷ []))
+    (leaves (refusesFlat B f (unclear (lentRefusal B (desk (positionIn f) shown bits) work))) (shown ∷ bits ∷ work ∷ []))
 
 unfoldable pub flowFlat : List ℤ → List ℕ → FlatPosition → List ℕ → List ℕ → List ℕ → Leaves FlatAnswer
 flowFlat B events f shown bits work =
     pick (means f)
     (flatOutcome (flowOf B events (desk (positionIn f) shown bits) work))
-    (leaves (gives (unclear (boardsFit (settingsIn f) B shown bits && (workFits (settingsIn f) work && eqb (length events % 3) 0)) B f) f 0) (shown ∷ bits ∷ work ∷ []))
+    (leaves (refusesFlat B f (unclear (flowRefusal B events (desk (positionIn f) shown bits) work))) (shown ∷ bits ∷ work ∷ []))
 
 -- ---- the other calls -------------------------------------------------------------------------------------------------------------------
 
+-- the number of the position check
 unfoldable pub positionFlat : List ℤ → FlatPosition → List ℕ → List ℕ → ℕ
-positionFlat B f shown bits = pick (means f) (positionCheck B (desk (positionIn f) shown bits)) (unclear (boardsFit (settingsIn f) B shown bits) B f)
+positionFlat B f shown bits = pick (means f) (positionCheck B (desk (positionIn f) shown bits)) (unclear (positionCheck B (desk (positionIn f) shown bits)))
 
 unfoldable pub gameStateFlat : List ℤ → ℕ → FlatPosition → List ℕ → List ℕ → FlatAnswer
 gameStateFlat B event f shown bits =
-    pick (means f) (flatAnswer (gameStateOf B event (desk (positionIn f) shown bits))) (gives (unclear (boardsFit (settingsIn f) B shown bits) B f) f 0)
+    pick (means f)
+    (flatAnswer (gameStateOf B event (desk (positionIn f) shown bits)))
+    (refusesFlat B f (unclear (positionCheck B (desk (positionIn f) shown bits))))
 
 unfoldable pub bbbvSolvedFlat : List ℤ → FlatPosition → List ℕ → List ℕ → FlatAnswer
 bbbvSolvedFlat B f shown bits =
-    pick (means f) (flatAnswer (bbbvSolvedOf B (desk (positionIn f) shown bits))) (gives (unclear (boardsFit (settingsIn f) B shown bits) B f) f 0)
+    pick (means f)
+    (flatAnswer (bbbvSolvedOf B (desk (positionIn f) shown bits)))
+    (refusesFlat B f (unclear (positionCheck B (desk (positionIn f) shown bits))))
 
 abbrev pub flatAsked : Asked → Leaves FlatAnswer
 flatAsked o = leaves (flatAnswer (o .answer)) (o .work ∷ [])
@@ -85,12 +94,15 @@ unfoldable pub leftFlat : List ℤ → FlatPosition → List ℕ → List ℕ �
 leftFlat B f shown bits work =
     pick (means f)
     (flatAsked (leftToSolveOf B (desk (positionIn f) shown bits) work))
-    (leaves (gives (unclear (boardsFit (settingsIn f) B shown bits && workFits (settingsIn f) work) B f) f 0) (work ∷ []))
+    (leaves (refusesFlat B f (unclear (lentRefusal B (desk (positionIn f) shown bits) work))) (work ∷ []))
 
 abbrev pub flatTotalled : Totalled → Leaves FlatValue
 flatTotalled o = leaves (flatValue (o .answer)) (o .work ∷ [])
 
 -- ---- the promises ----------------------------------------------------------------------------------------------------------------------
+
+abbrev pub CheckBoardIs : ℕ → ℕ → List ℤ → FlatValue → Type 0
+CheckBoardIs rows columns B r = r ≡ flatValue (boardCheckOf rows columns B)
 
 abbrev pub SetupIs : ℕ → ℕ → ℕ → ℕ → List ℤ → List ℕ → List ℕ → FlatAnswer → List ℕ → List ℕ → Type 0
 SetupIs rows columns mode question B shown bits r shown′ bits′ = leaves r (shown′ ∷ bits′ ∷ []) ≡ setupFlat rows columns mode question B shown bits
@@ -105,8 +117,8 @@ StepIs f code row column B shown bits work r shown′ bits′ work′ =
 abbrev pub StepFlowIs : FlatPosition → List ℕ → List ℤ → List ℕ → List ℕ → List ℕ → FlatAnswer → List ℕ → List ℕ → List ℕ → Type 0
 StepFlowIs f events B shown bits work r shown′ bits′ work′ = leaves r (shown′ ∷ bits′ ∷ work′ ∷ []) ≡ flowFlat B events f shown bits work
 
-abbrev pub CheckPositionIs : FlatPosition → List ℤ → List ℕ → List ℕ → ℕ → Type 0
-CheckPositionIs f B shown bits r = r ≡ positionFlat B f shown bits
+abbrev pub CheckPositionIs : FlatPosition → List ℤ → List ℕ → List ℕ → FlatValue → Type 0
+CheckPositionIs f B shown bits r = r ≡ flatValue (checks (f .rows) (f .columns) B (positionFlat B f shown bits))
 
 abbrev pub StepGameStateIs : FlatPosition → List ℤ → List ℕ → List ℕ → ℕ → FlatAnswer → Type 0
 StepGameStateIs f B shown bits event r = r ≡ gameStateFlat B event f shown bits

@@ -1,20 +1,45 @@
 // The library for C and Rust firmware: board's calls and the book reader under plain names, over lent slices and a flat position whose states
-// are bytes. Every byte pattern is taken; a state byte that means nothing makes the position unlawful, 26 (specs/Promises.antt).
-ghost use Rattle.rules.specs.Promises.{CheckBoardIs, NumberMinesIs};
-ghost use Rattle.console.specs.Promises.{SetupIs, ResetIs, StepIs, StepFlowIs, CheckPositionIs, StepGameStateIs, BbbvSolvedIs, LeftToSolveIs, Total3bvIs, ReadBookIs};
+// are bytes. Every byte pattern is taken; a state byte that means nothing is refused with 264, after 20 to 263 (specs/Promises.antt).
+ghost use mathlib.Core.Path.{_≡_};
+ghost use Rattle.rules.specs.Promises.{NumberMinesIs};
+ghost use Rattle.boards.specs.Faults.{Placeable};
+ghost use Rattle.console.specs.Promises.{unclear, refusesFlat, CheckBoardIs, SetupIs, ResetIs, StepIs, StepFlowIs, CheckPositionIs, StepGameStateIs, BbbvSolvedIs, LeftToSolveIs, Total3bvIs, ReadBookIs};
 use flats::FlatAnswer;
 use flats::FlatBook;
 use flats::FlatPosition;
 use flats::FlatValue;
 
+// ---- a state byte that means nothing ---------------------------------------------------------------------------------------------------
+
+// The refusal n of what the bytes are read as, or 264 where that has none.
+fn unclear(n: u16) -> u16
+    ensures { λ r. ⌜ r ≡ unclear n ⌝ }
+{
+    if n != 0 {
+        return n;
+    }
+    264
+}
+
+// The flat position goes back as it was given, and beside 22 and 23 the faulty cell.
+fn refuse_unclear(n: u16, f: FlatPosition, mines: &[i8]) -> FlatAnswer
+    requires { ⌜ Placeable (f .rows) (f .columns) (now mines) n ⌝ }
+    ensures { λ r. ⌜ r ≡ refusesFlat (now (mines .entry)) f (unclear n) ⌝ }
+{
+    let m = unclear(n);
+    let x = boards::fault_of(f.rows, f.columns, mines, m);
+    flats::gives(m, x, f, 0)
+}
+
 // ---- the board -------------------------------------------------------------------------------------------------------------------------
 
 // The board check: 20 to 24.
 #[no_mangle]
-pub extern "C" fn lm_check_board(rows: u8, columns: u8, mines: &[i8]) -> u32
+pub extern "C" fn lm_check_board(rows: u8, columns: u8, mines: &[i8]) -> FlatValue
     ensures { λ r. ⌜ CheckBoardIs rows columns (now (mines .entry)) r ⌝ }
 {
-    flats::wide(board::check_board(rows, columns, mines))
+    let v = board::check_board(rows, columns, mines);
+    flats::flat_value(v)
 }
 
 // Numbering from a mine list: 20, 21, 42, 24.
@@ -31,10 +56,7 @@ pub extern "C" fn lm_total_3bv(rows: u8, columns: u8, mines: &[i8], work: &mut [
     ensures { λ r. ⌜ Total3bvIs rows columns (now (mines .entry)) (now (work .entry)) r (now (work .exit)) ⌝ }
 {
     let v = board::total_3bv(rows, columns, mines, work);
-    FlatValue {
-        number: flats::wide(v.number),
-        value: v.value,
-    }
+    flats::flat_value(v)
 }
 
 // ---- setup and reset -------------------------------------------------------------------------------------------------------------------
@@ -73,21 +95,33 @@ pub extern "C" fn lm_reset(
     if n == 0 {
         return flats::flat_answer(a);
     }
-    flats::refused(n, f)
+    let x = a.place;
+    flats::gives(n, x, f, 0)
 }
 
 // ---- the position ----------------------------------------------------------------------------------------------------------------------
 
-// The position check: 20 to 26.
+// The position check: 20 to 264.
 #[no_mangle]
-pub extern "C" fn lm_check_position(f: FlatPosition, mines: &[i8], shown: &[u8], bits: &[u8]) -> u32
+pub extern "C" fn lm_check_position(
+    f: FlatPosition,
+    mines: &[i8],
+    shown: &[u8],
+    bits: &[u8],
+) -> FlatValue
     ensures { λ r. ⌜ CheckPositionIs f (now (mines .entry)) (now (shown .entry)) (now (bits .entry)) r ⌝ }
 {
-    let p = flats::read(f);
-    flats::wide(board::check_position(p, mines, shown, bits))
+    let p = flats::position_in(f);
+    if !flats::means(f) {
+        let n = unclear(refusals::check_refusal(p, mines, shown, bits));
+        let v = refusals::found(f.rows, f.columns, mines, n);
+        return flats::flat_value(v);
+    }
+    let v = board::check_position(p, mines, shown, bits);
+    flats::flat_value(v)
 }
 
-// "replay" is 0 and "fail" 1: 20 to 26, 33, or Loss.
+// "replay" is 0 and "fail" 1: 20 to 264, 33, or Loss.
 #[no_mangle]
 pub extern "C" fn lm_step_game_state(
     f: FlatPosition,
@@ -98,12 +132,16 @@ pub extern "C" fn lm_step_game_state(
 ) -> FlatAnswer
     ensures { λ r. ⌜ StepGameStateIs f (now (mines .entry)) (now (shown .entry)) (now (bits .entry)) event r ⌝ }
 {
-    let p = flats::read(f);
+    let p = flats::position_in(f);
+    if !flats::means(f) {
+        let n = refusals::check_refusal(p, mines, shown, bits);
+        return refuse_unclear(n, f, mines);
+    }
     let a = board::step_game_state(p, mines, shown, bits, event);
-    flats::answered(f, a)
+    flats::flat_answer(a)
 }
 
-// Both solved counts together: 20 to 26.
+// Both solved counts together: 20 to 264.
 #[no_mangle]
 pub extern "C" fn lm_get_bbbv_solved(
     f: FlatPosition,
@@ -113,12 +151,16 @@ pub extern "C" fn lm_get_bbbv_solved(
 ) -> FlatAnswer
     ensures { λ r. ⌜ BbbvSolvedIs f (now (mines .entry)) (now (shown .entry)) (now (bits .entry)) r ⌝ }
 {
-    let p = flats::read(f);
+    let p = flats::position_in(f);
+    if !flats::means(f) {
+        let n = refusals::check_refusal(p, mines, shown, bits);
+        return refuse_unclear(n, f, mines);
+    }
     let a = board::get_bbbv_solved(p, mines, shown, bits);
-    flats::answered(f, a)
+    flats::flat_answer(a)
 }
 
-// The total minus both solved counts: 20 to 26.
+// The total minus both solved counts: 20 to 264.
 #[no_mangle]
 pub extern "C" fn lm_left_to_solve(
     f: FlatPosition,
@@ -129,9 +171,13 @@ pub extern "C" fn lm_left_to_solve(
 ) -> FlatAnswer
     ensures { λ r. ⌜ LeftToSolveIs f (now (mines .entry)) (now (shown .entry)) (now (bits .entry)) (now (work .entry)) r (now (work .exit)) ⌝ }
 {
-    let p = flats::read(f);
+    let p = flats::position_in(f);
+    if !flats::means(f) {
+        let n = refusals::lent_refusal(p, mines, shown, bits, &*work);
+        return refuse_unclear(n, f, mines);
+    }
     let a = board::left_to_solve(p, mines, shown, bits, work);
-    flats::answered(f, a)
+    flats::flat_answer(a)
 }
 
 // ---- a step, and a row of events -------------------------------------------------------------------------------------------------------
@@ -150,12 +196,16 @@ pub extern "C" fn lm_step(
 ) -> FlatAnswer
     ensures { λ r. ⌜ StepIs f code row column (now (mines .entry)) (now (shown .entry)) (now (bits .entry)) (now (work .entry)) r (now (shown .exit)) (now (bits .exit)) (now (work .exit)) ⌝ }
 {
-    let p = flats::read(f);
+    let p = flats::position_in(f);
+    if !flats::means(f) {
+        let n = refusals::lent_refusal(p, mines, &*shown, &*bits, &*work);
+        return refuse_unclear(n, f, mines);
+    }
     let a = board::step(p, code, row, column, mines, shown, bits, work);
-    flats::answered(f, a)
+    flats::flat_answer(a)
 }
 
-// A row of events as a book has them: 20 to 26 once, then up to the first refused event.
+// A row of events as a book has them: 20 to 264 once, then up to the first refused event.
 #[no_mangle]
 pub extern "C" fn lm_step_flow(
     f: FlatPosition,
@@ -167,9 +217,13 @@ pub extern "C" fn lm_step_flow(
 ) -> FlatAnswer
     ensures { λ r. ⌜ StepFlowIs f (now (events .entry)) (now (mines .entry)) (now (shown .entry)) (now (bits .entry)) (now (work .entry)) r (now (shown .exit)) (now (bits .exit)) (now (work .exit)) ⌝ }
 {
-    let p = flats::read(f);
+    let p = flats::position_in(f);
+    if !flats::means(f) {
+        let n = refusals::flow_refusal(p, events, mines, &*shown, &*bits, &*work);
+        return refuse_unclear(n, f, mines);
+    }
     let a = board::step_flow(p, events, mines, shown, bits, work);
-    flats::answered(f, a)
+    flats::flat_answer(a)
 }
 
 // ---- the book --------------------------------------------------------------------------------------------------------------------------

@@ -3,12 +3,14 @@ use mathlib.Core.Bool.{Bool, not, _&&_}
 use Prim.Native.Nat.{ℕ}
 use lib.Dec.{eqb, leb}
 use Rattle.rules.specs.declared.Settings.{Settings}
+use Rattle.rules.specs.declared.Place.{Place}
 use Rattle.rules.specs.declared.Position.{Position}
 use Rattle.rules.specs.declared.Answer.{Answer}
 use Rattle.rules.specs.declared.Value.{Value}
 use Rattle.rules.specs.declared.Book.{Book}
 use Rattle.rules.specs.Words.{bit}
 use Rattle.rules.specs.States.{gameNumber, gameAt, mouseNumber, mouseAt}
+use Rattle.rules.specs.Board.{rowByte, columnByte}
 use Rattle.flats.specs.declared.FlatPosition.{FlatPosition}
 use Rattle.flats.specs.declared.FlatAnswer.{FlatAnswer}
 use Rattle.flats.specs.declared.FlatValue.{FlatValue}
@@ -28,7 +30,7 @@ settingsOf rows columns mode question = record { rows = rows; columns = columns;
 abbrev pub settingsIn : FlatPosition → Settings
 settingsIn f = settingsOf (f .rows) (f .columns) (f .mode) (f .question)
 
--- the position that a flat one stands for, where its bytes mean something
+-- the position that a flat one stands for; a byte that means nothing is read as the last state, or as yes
 abbrev pub positionIn : FlatPosition → Position
 positionIn f = record {
   settings = settingsIn f;
@@ -65,14 +67,14 @@ flatOf p = record {
   «solved_chord» = p .secrets .«solved_chord»;
 }
 
-abbrev pub gives : ℕ → FlatPosition → ℕ → FlatAnswer
-gives n f v = record { number = n; position = f; value = v }
+abbrev pub gives : ℕ → Place → FlatPosition → ℕ → FlatAnswer
+gives n x f v = record { number = n; row = rowByte x; column = columnByte x; position = f; value = v }
 
 abbrev pub flatAnswer : Answer → FlatAnswer
-flatAnswer a = gives (a .number) (flatOf (a .position)) (a .value)
+flatAnswer a = gives (a .number) (a .place) (flatOf (a .position)) (a .value)
 
 abbrev pub flatValue : Value → FlatValue
-flatValue v = record { number = v .number; value = v .value }
+flatValue v = record { number = v .number; row = rowByte (v .place); column = columnByte (v .place); value = v .value }
 
 abbrev pub flatBook : Book → FlatBook
 flatBook b = record {

@@ -1,15 +1,16 @@
 // The flat forms of a position, an answer, a value and a book, which cross into C, and what their bytes mean (specs/Flat.antt).
-// Every byte pattern is taken; a state byte that means nothing makes the position unlawful (specs/Parts.antt).
+// Every byte pattern is taken; a state byte that means nothing is read as the last state, and `means` says that there is one.
 ghost use mathlib.Core.Path.{_≡_};
 ghost use Rattle.rules.specs.Words.{bit};
-ghost use Rattle.flats.specs.Flat.{means, settingsOf, positionIn, flatOf, gives, flatAnswer, flatBook};
-ghost use Rattle.flats.specs.Parts.{readOf, answeredOf};
+ghost use Rattle.flats.specs.Flat.{means, settingsOf, positionIn, flatOf, gives, flatAnswer, flatValue, flatBook};
 use rules::Answer;
 use rules::Book;
 use rules::Counts;
+use rules::Place;
 use rules::Position;
 use rules::Secrets;
 use rules::Settings;
+use rules::Value;
 
 // The position, with its states as bytes: 52 bytes without padding, so that a refusal can give every one of them back. The spare byte is 0.
 // `double` is a word of C.
@@ -36,10 +37,12 @@ pub struct FlatPosition {
     pub solved_chord: u32,
 }
 
-// What a call on a position answers.
+// What a call on a position answers: 60 bytes without padding. The place is two bytes, 255 255 where there is none.
 #[repr(C)]
 pub struct FlatAnswer {
-    pub number: u32,
+    pub number: u16,
+    pub row: u8,
+    pub column: u8,
     pub position: FlatPosition,
     pub value: u32,
 }
@@ -47,7 +50,9 @@ pub struct FlatAnswer {
 // What a call without one answers: 8 bytes, which pass in one register on x86-64 and on aarch64.
 #[repr(C)]
 pub struct FlatValue {
-    pub number: u32,
+    pub number: u16,
+    pub row: u8,
+    pub column: u8,
     pub value: u32,
 }
 
@@ -84,7 +89,7 @@ pub fn wide(n: u16) -> u32
 }
 
 // Does every state byte mean something?
-fn means(f: FlatPosition) -> bool
+pub fn means(f: FlatPosition) -> bool
     ensures { λ r. ⌜ r ≡ means f ⌝ }
 {
     (f.question <= 1) & ((f.game <= 4) & ((f.mouse <= 6) & ((f.middle <= 1) & (f.spare == 0))))
@@ -133,18 +138,6 @@ pub fn position_in(f: FlatPosition) -> Position
     }
 }
 
-// A flat position with a byte that means nothing is read as one of 65,536 events, which no lawful position has: the call then refuses it
-// with 26 in its place, after 20 to 25, and writes nothing.
-pub fn read(f: FlatPosition) -> Position
-    ensures { λ r. ⌜ r ≡ readOf f ⌝ }
-{
-    let p = position_in(f);
-    if means(f) {
-        return p;
-    }
-    p.with_events(65536)
-}
-
 fn flat(p: Position) -> FlatPosition
     ensures { λ r. ⌜ r ≡ flatOf p ⌝ }
 {
@@ -173,36 +166,39 @@ fn flat(p: Position) -> FlatPosition
     }
 }
 
+pub fn gives(n: u16, x: Place, f: FlatPosition, v: u32) -> FlatAnswer
+    ensures { λ r. ⌜ r ≡ gives n x f v ⌝ }
+{
+    let row = rules::row_byte(x);
+    let column = rules::column_byte(x);
+    FlatAnswer {
+        number: n,
+        row,
+        column,
+        position: f,
+        value: v,
+    }
+}
+
 pub fn flat_answer(a: Answer) -> FlatAnswer
     ensures { λ r. ⌜ r ≡ flatAnswer a ⌝ }
 {
+    let x = a.place;
     let p = a.position;
-    FlatAnswer {
-        number: wide(a.number),
-        position: flat(p),
-        value: a.value,
-    }
+    let f = flat(p);
+    gives(a.number, x, f, a.value)
 }
 
-// Refusal n gives the flat position back as it was given.
-pub fn refused(n: u16, f: FlatPosition) -> FlatAnswer
-    ensures { λ r. ⌜ r ≡ gives n f 0 ⌝ }
+pub fn flat_value(v: Value) -> FlatValue
+    ensures { λ r. ⌜ r ≡ flatValue v ⌝ }
 {
-    FlatAnswer {
-        number: wide(n),
-        position: f,
-        value: 0,
+    let at = v.place;
+    FlatValue {
+        number: v.number,
+        row: rules::row_byte(at),
+        column: rules::column_byte(at),
+        value: v.value,
     }
-}
-
-// What a call on `read(f)` answered, for f.
-pub fn answered(f: FlatPosition, a: Answer) -> FlatAnswer
-    ensures { λ r. ⌜ r ≡ answeredOf f a ⌝ }
-{
-    if means(f) {
-        return flat_answer(a);
-    }
-    refused(a.number, f)
 }
 
 pub fn flat_book(b: Book) -> FlatBook

@@ -16,7 +16,7 @@ use Rattle.rules.specs.Board.{faceAt}
 use Rattle.rules.specs.Clicks.{Desk, desk, done, on}
 use Rattle.rules.specs.Step.{stepOn}
 use Rattle.rules.specs.Lawful.{cellLawful}
-use Rattle.rules.specs.Calls.{leftBy, setBy, Outcome, SetUp, boardsFit, freshDesk, setupBy, setupRefusal, resetOf, answers, setUp, positionCheck, lentRefusal, refused, accepted, played, stepOf, plays, lastPlay, flowed, flowRefusal, flowOf, gameStateOf}
+use Rattle.rules.specs.Calls.{leftBy, setBy, Outcome, SetUp, boardsFit, freshDesk, setupBy, setupRefusal, resetOf, answers, refuses, setUp, positionCheck, lentRefusal, refused, refusedAt, accepted, played, stepOf, plays, lastPlay, flowed, flowRefusal, flowOf, gameStateOf}
 use Rattle.cells.proofs.Words.{pick-both}
 use Rattle.keep.specs.Kept.{LawfulAt, Follows}
 use Rattle.keep.proofs.Lawful.{settings-accepted, accepted-ground, check-lawful, settings-check, check-passes}
@@ -71,11 +71,11 @@ setup-keeps s B shown bits e =
     settings-check s (boardsFit s B shown bits) B 0 (freshDesk s) e refl (setup-lawful s B shown bits e)
 
 setup-by : (B : List ℤ) (d : Desk) (n : ℕ) → (n ≡ 0 → Accepts B (freshDesk (d .position .settings))) → Accepts B d
-    → Accepts B (setBy (setupBy n (d .position) (d .position .settings) (d .shown) (d .bits)))
+    → Accepts B (setBy (setupBy n B (d .position) (d .position .settings) (d .shown) (d .bits)))
 unfolding setupBy
 setup-by B d n h e =
     pick-both (λ (o : SetUp). Accepts B (setBy o)) (eqb n 0)
-    (setUp (answers 0 (f .position) 0) (f .shown) (f .bits)) (setUp (answers n (d .position) 0) (d .shown) (d .bits))
+    (setUp (answers 0 (f .position) 0) (f .shown) (f .bits)) (setUp (refuses B (d .position) n) (d .shown) (d .bits))
     (λ z. h (eqb-true n 0 z)) (λ _. e)
   where
     f : Desk
@@ -91,7 +91,7 @@ reset-keeps B d e =
 pub step-call-keeps : (B : List ℤ) (code r c : ℕ) (d : Desk) (work : List ℕ) → Accepts B d → Accepts B (leftBy (stepOf B code r c d work))
 unfolding stepOf
 step-call-keeps B code r c d work e =
-    pick-both (λ (o : Outcome). Accepts B (leftBy o)) (eqb (lentRefusal B d work) 0) (played (stepOn B code r c d) work) (refused (lentRefusal B d work) d work)
+    pick-both (λ (o : Outcome). Accepts B (leftBy o)) (eqb (lentRefusal B d work) 0) (played (stepOn B code r c d) work) (refusedAt B (lentRefusal B d work) d work)
     (λ _. pick-both (λ (o : Outcome). Accepts B (leftBy o)) (leb 20 (stepOn B code r c d .answer))
     (refused (stepOn B code r c d .answer) (stepOn B code r c d .desk) work) (accepted (stepOn B code r c d .answer) (stepOn B code r c d .desk) work)
     (λ _. step-check B code r c d e) (λ _. step-check B code r c d e))
@@ -104,7 +104,7 @@ flow-call-keeps B events d work e =
     let f : Follows B d (lastPlay (done 0 d) (plays B events d) .desk) =
     plays-follow B events d (done 0 d) (record { lawful = check-lawful B d e; settings = refl; told = λ t. t }) in
     pick-both (λ (o : Outcome). Accepts B (leftBy o)) (eqb (flowRefusal B events d work) 0)
-    (flowed (plays B events d) (lastPlay (done 0 d) (plays B events d)) work) (refused (flowRefusal B events d work) d work)
+    (flowed (plays B events d) (lastPlay (done 0 d) (plays B events d)) work) (refusedAt B (flowRefusal B events d work) d work)
     (λ _. check-passes B d (lastPlay (done 0 d) (plays B events d) .desk) e (f .settings) (f .lawful)) (λ _. e)
 
 -- step_game_state
@@ -112,7 +112,7 @@ pub game-state-keeps : (B : List ℤ) (event : ℕ) (d : Desk) → Accepts B d �
 unfolding gameStateOf
 game-state-keeps B event d e =
     pick-both (λ (a : Answer). Accepts B (on d (a .position))) (eqb (positionCheck B d) 0)
-    (pick (leb event 1) (answers 0 (withGame (d .position) Loss) 0) (answers 33 (d .position) 0)) (answers (positionCheck B d) (d .position) 0)
+    (pick (leb event 1) (answers 0 (withGame (d .position) Loss) 0) (answers 33 (d .position) 0)) (refuses B (d .position) (positionCheck B d))
     (λ _. pick-both (λ (a : Answer). Accepts B (on d (a .position))) (leb event 1) (answers 0 (withGame (d .position) Loss) 0) (answers 33 (d .position) 0)
     (λ _. check-passes B d (on d (withGame (d .position) Loss)) e refl (lost-lawful B d (check-lawful B d e))) (λ _. e))
     (λ _. e)

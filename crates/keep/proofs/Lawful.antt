@@ -199,15 +199,24 @@ kept-lawful B d h =
 
 -- ---- the refusal of a position is 0 exactly if it is lawful ----------------------------------------------------------------------------
 
+pub law-split : (B : List ℤ) (d : Desk) → eqb (lawfulRefusal B d) 0 ≡ lawful B d
+unfolding lawful lawfulRefusal
+law-split B d = go (shownLawful B d) (bitsLawful B d) (countsLawful d) (statesLawful B d)
+  where
+    go : (a b c s : Bool) → eqb (unless 261 a (unless 262 b (unless 263 c (unless 264 s 0)))) 0 ≡ (a && (b && (c && s)))
+    go true true true true = refl
+    go true true true false = refl
+    go true true false s = refl
+    go true false c s = refl
+    go false b c s = refl
+
 pub lawful-passes : (B : List ℤ) (d : Desk) → lawful B d ≡ true → lawfulRefusal B d ≡ 0
-unfolding lawfulRefusal
-lawful-passes B d e = rw e
+lawful-passes B d e = eqb-true _ _ (law-split B d ∙ e)
 
 pub passed-lawful : (B : List ℤ) (d : Desk) → lawfulRefusal B d ≡ 0 → lawful B d ≡ true
-unfolding lawfulRefusal
-passed-lawful B d e = unless-passed 25 (lawful B d) 0 e .0
+passed-lawful B d e = sym (law-split B d) ∙ eq-eqb _ _ e
 
--- ---- the tests 20 to 26 ----------------------------------------------------------------------------------------------------------------
+-- ---- the tests 20 to 264 ---------------------------------------------------------------------------------------------------------------
 
 -- 20 to 25 refused nothing, nor did the rest
 pub settings-accepted : (s : Settings) (fit : Bool) (B : List ℤ) (rest : ℕ) → settingsRefusal s fit B rest ≡ 0
@@ -223,7 +232,7 @@ settings-accepted s fit B rest e = go (eqb (boardRefusal (s .rows) (s .columns) 
         (board-accepted (s .rows) (s .columns) fit B (eqb-true _ _ d), a .0, a .1)
     go false d u = absurd (true≢false (sym (eq-eqb _ _ u) ∙ d))
 
--- a position that 20 to 26 did not refuse is lawful
+-- a position that 20 to 264 did not refuse is lawful
 pub position-lawful : (fit : Bool) (B : List ℤ) (d : Desk) → (fit ≡ true → boardsFit (d .position .settings) B (d .shown) (d .bits) ≡ true)
     → positionRefusal fit B d ≡ 0 → LawfulAt B d
 unfolding positionRefusal

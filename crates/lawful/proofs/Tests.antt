@@ -4,16 +4,16 @@ use mathlib.Core.Bool.{Bool, true, false, not, _&&_, _||_}
 use mathlib.Core.List.{List}
 use Prim.Native.Nat.{ℕ, zero, suc, _+_, _<_, _≤_}
 use native.Mathlib.Omega.{arith}
-use borrow.Author.Tests.{eqb-true, leb-true, lt-leb, ne-eqb, le-leb}
+use borrow.Author.Tests.{eqb-true, leb-true, lt-leb, ne-eqb, le-leb, not-true, not-false}
 use lib.Dec.{leb, eqb}
 use lib.ListN.{length, getD, List·getD-eq-default}
 use lib.IntN.{ℤ, pos}
 use Rattle.rules.specs.declared.Position.{Position}
-use Rattle.rules.specs.Words.{pick, unless, bit, count}
+use Rattle.rules.specs.Words.{pick, bit, count}
 use Rattle.rules.specs.Board.{faceAt}
 use Rattle.rules.specs.Lent.{bitAt}
 use Rattle.rules.specs.Clicks.{Desk, desk}
-use Rattle.rules.specs.Lawful.{countShown, shows, isOpen, isFlag, isOpenOrHit, cellLawful, shownLawful, bitsLawful, countsLawful, statesLawful, lawful, lawfulRefusal}
+use Rattle.rules.specs.Lawful.{countShown, shows, isOpen, isFlag, isOpenOrHit, cellLawful, shownLawful, bitsLawful, countsLawful, statesLawful, lawfulRefusal}
 use Rattle.rules.specs.States.{isLoss}
 use Rattle.lawful.specs.declared.Census.{Census}
 use Rattle.lawful.specs.Parts.{Counted, cellsLawful, bitLawful}
@@ -139,10 +139,29 @@ module _ (shown : List ℕ) (c : Census) (h : Counted shown (length shown) c) wh
   unfolding countsLawful
   counts-is p bits = rw (flags-are, opens-are, open-are)
 
--- ---- all four --------------------------------------------------------------------------------------------------------------------------
+-- ---- the chain -------------------------------------------------------------------------------------------------------------------------
 
--- all four together, found to be t
-pub all-four : (B : List ℤ) (d : Desk) {a b c e t : Bool} → a ≡ shownLawful B d → b ≡ bitsLawful B d → c ≡ countsLawful d → e ≡ statesLawful B d
-    → (a && (b && (c && e))) ≡ t → unless 26 t 0 ≡ lawfulRefusal B d
-unfolding lawful lawfulRefusal
-all-four B d ha hb hc he et = ap (λ (x : Bool). unless 26 x 0) (sym et ∙ ap₂ _&&_ ha (ap₂ _&&_ hb (ap₂ _&&_ hc he)))
+-- each refusal where its part is the first that fails, and 0 where none does
+module _ (B : List ℤ) (d : Desk) where
+  pub refused-shown : {a : Bool} → a ≡ shownLawful B d → not a ≡ true → 261 ≡ lawfulRefusal B d
+  unfolding lawfulRefusal
+  refused-shown ha f = simp (sym ha ∙ not-true _ f)
+
+  module _ {a : Bool} (ha : a ≡ shownLawful B d) (ta : not a ≡ false) where
+    pub refused-bits : {b : Bool} → b ≡ bitsLawful B d → not b ≡ true → 262 ≡ lawfulRefusal B d
+    unfolding lawfulRefusal
+    refused-bits hb f = simp (sym ha ∙ not-false _ ta, sym hb ∙ not-true _ f)
+
+    module _ {b : Bool} (hb : b ≡ bitsLawful B d) (tb : not b ≡ false) where
+      pub refused-counts : {c : Bool} → c ≡ countsLawful d → not c ≡ true → 263 ≡ lawfulRefusal B d
+      unfolding lawfulRefusal
+      refused-counts hc f = simp (sym ha ∙ not-false _ ta, sym hb ∙ not-false _ tb, sym hc ∙ not-true _ f)
+
+      module _ {c : Bool} (hc : c ≡ countsLawful d) (tc : not c ≡ false) where
+        pub refused-states : {s : Bool} → s ≡ statesLawful B d → not s ≡ true → 264 ≡ lawfulRefusal B d
+        unfolding lawfulRefusal
+        refused-states hs f = simp (sym ha ∙ not-false _ ta, sym hb ∙ not-false _ tb, sym hc ∙ not-false _ tc, sym hs ∙ not-true _ f)
+
+        pub refused-none : {s : Bool} → s ≡ statesLawful B d → not s ≡ false → 0 ≡ lawfulRefusal B d
+        unfolding lawfulRefusal
+        refused-none hs f = simp (sym ha ∙ not-false _ ta, sym hb ∙ not-false _ tb, sym hc ∙ not-false _ tc, sym hs ∙ not-false _ f)

@@ -1,4 +1,4 @@
-// 26: the lawful position, clause by clause, in the four parts and the order of rules' Lawful: shown values, bits, counts, what the states ask.
+// 261 to 264: the lawful position, clause by clause, in the four parts and the order of rules' Lawful: shown values, bits, counts, what the states ask.
 // One scan counts the shown board. The tests of the counts are made in 64 bits, where no sum of given counts wraps.
 ghost use mathlib.Core.Path.{_≡_};
 ghost use mathlib.Core.List.{List};
@@ -223,7 +223,7 @@ pub fn states_lawful(p: Position, mines: &[i8], shown: &[u8], c: Census) -> bool
     asked & (!is_not_flag(mouse) | (1 <= p.counts.right))
 }
 
-// ---- all four --------------------------------------------------------------------------------------------------------------------------
+// ---- the chain -------------------------------------------------------------------------------------------------------------------------
 
 // The refusal of a position that is not lawful, or 0.
 pub fn lawful_refusal(p: Position, mines: &[i8], shown: &[u8], bits: &[u8]) -> u16
@@ -231,12 +231,17 @@ pub fn lawful_refusal(p: Position, mines: &[i8], shown: &[u8], bits: &[u8]) -> u
     ensures { λ r. ⌜ r ≡ lawfulRefusal (now (mines .entry)) (desk p (now (shown .entry)) (now (bits .entry))) ⌝ }
 {
     let c = take_census(shown);
-    let values = shown_lawful(p, mines, shown, c);
-    let before = bits_lawful(mines, bits);
-    let counts = counts_lawful(p, c);
-    let states = states_lawful(p, mines, shown, c);
-    if values & (before & (counts & states)) {
-        return 0;
+    if !shown_lawful(p, mines, shown, c) {
+        return 261;
     }
-    26
+    if !bits_lawful(mines, bits) {
+        return 262;
+    }
+    if !counts_lawful(p, c) {
+        return 263;
+    }
+    if !states_lawful(p, mines, shown, c) {
+        return 264;
+    }
+    0
 }

@@ -8,9 +8,10 @@ use lib.IntN.{ℤ}
 use lib.Dec.{leb, eqb}
 use borrow.Author.Tests.{eqb-true}
 use Rattle.rules.specs.declared.Settings.{Settings}
+use Rattle.rules.specs.declared.Place.the-variants.{Nowhere}
 use Rattle.rules.specs.Words.{pick, unless}
 use Rattle.rules.specs.Grid.{sizeOk}
-use Rattle.rules.specs.Board.{boardRefusal}
+use Rattle.rules.specs.Board.{boardRefusal, faultOf}
 use Rattle.rules.specs.States.{freshOf}
 use Rattle.rules.specs.Clicks.{Desk, Play, done}
 use Rattle.rules.specs.Lawful.{lawfulRefusal}
@@ -20,6 +21,7 @@ use Rattle.rules.specs.Calls.{
   setBy,
   Outcome,
   answers,
+  refuses,
   setUp,
   boardsFit,
   workFits,
@@ -33,6 +35,7 @@ use Rattle.rules.specs.Calls.{
   setupRefusal,
   setupOf,
   refused,
+  refusedAt,
   accepted,
   played,
   stepOf,
@@ -50,22 +53,22 @@ use Rattle.secrecy.proofs.Hands.{idle}
 use Rattle.secrecy.proofs.Events.{step-quiet}
 use Rattle.secrecy.proofs.Rows.{Move}
 use Rattle.secrecy.proofs.Secrecy.{event}
-use Rattle.league.specs.Secret.{Function, step, flow, CallIs, playOf}
+use Rattle.league.specs.Secret.{Function, step, flow, CallIs, playOf, Placeless}
 
 -- ---- setup ---------------------------------------------------------------------------------------------------------------------------------
 
-setup-number : (n : ℕ) (s : Settings) (shown bits : List ℕ) → setupBy n (freshOf s) s shown bits .answer .number ≡ 0 → n ≡ 0
+setup-number : (n : ℕ) (B : List ℤ) (s : Settings) (shown bits : List ℕ) → setupBy n B (freshOf s) s shown bits .answer .number ≡ 0 → n ≡ 0
 unfolding setupBy
-setup-number n s shown bits e = go (eqb n 0) refl e
+setup-number n B s shown bits e = go (eqb n 0) refl e
   where
     go : (b : Bool) → eqb n 0 ≡ b
-        → pick b (setUp (answers 0 (freshOf s) 0) (freshDesk s .shown) (freshDesk s .bits)) (setUp (answers n (freshOf s) 0) shown bits) .answer .number ≡ 0 → n ≡ 0
+        → pick b (setUp (answers 0 (freshOf s) 0) (freshDesk s .shown) (freshDesk s .bits)) (setUp (refuses B (freshOf s) n) shown bits) .answer .number ≡ 0 → n ≡ 0
     go true d e = eqb-true n 0 d
     go false d e = e
 
 setup-passed : (s : Settings) (B : List ℤ) (shown bits : List ℕ) → setupOf s B shown bits .answer .number ≡ 0 → setupRefusal s B shown bits ≡ 0
 unfolding setupOf
-setup-passed s B shown bits e = setup-number (setupRefusal s B shown bits) s shown bits e
+setup-passed s B shown bits e = setup-number (setupRefusal s B shown bits) B s shown bits e
 
 -- an accepted setup begins the game of the demand, and the position check accepts it
 pub begins : (s : Settings) (B : List ℤ) (shown bits : List ℕ) → setupOf s B shown bits .answer .number ≡ 0 → setBy (setupOf s B shown bits) ≡ freshDesk s
@@ -99,13 +102,22 @@ more-to-fit true false B d e = settings-false (d .position .settings) true B (la
 more-to-fit false false B d e = settings-false (d .position .settings) false B (lawfulRefusal B d) e
 
 -- a call that is refused unless something fits, as a play
-tested : (t : Bool) (n : ℕ) (o : Outcome) (d : Desk) (work : List ℕ) → n ≡ unless 21 t 0
-    → playOf (pick (eqb n 0) o (refused n d work)) ≡ pick t (playOf o) (done 21 d)
-tested t n o d work e = ap (λ (m : ℕ). playOf (pick (eqb m 0) o (refused m d work))) e ∙ go t
-  where
-    go : (t : Bool) → playOf (pick (eqb (unless 21 t 0) 0) o (refused (unless 21 t 0) d work)) ≡ pick t (playOf o) (done 21 d)
-    go true = refl
-    go false = refl
+module _ (t : Bool) (n : ℕ) (o : Outcome) (B : List ℤ) (d : Desk) (work : List ℕ) (e : n ≡ unless 21 t 0) where
+  tested : playOf (pick (eqb n 0) o (refusedAt B n d work)) ≡ pick t (playOf o) (done 21 d)
+  tested = ap (λ (m : ℕ). playOf (pick (eqb m 0) o (refusedAt B m d work))) e ∙ go t
+    where
+      go : (t : Bool) → playOf (pick (eqb (unless 21 t 0) 0) o (refusedAt B (unless 21 t 0) d work)) ≡ pick t (playOf o) (done 21 d)
+      go true = refl
+      go false = refl
+
+  -- and 21 has no place
+  tested-place : o .answer .place ≡ Nowhere → pick (eqb n 0) o (refusedAt B n d work) .answer .place ≡ Nowhere
+  unfolding faultOf
+  tested-place h = ap (λ (m : ℕ). pick (eqb m 0) o (refusedAt B m d work) .answer .place) e ∙ go t
+    where
+      go : (t : Bool) → pick (eqb (unless 21 t 0) 0) o (refusedAt B (unless 21 t 0) d work) .answer .place ≡ Nowhere
+      go true = h
+      go false = refl
 
 -- ---- step ----------------------------------------------------------------------------------------------------------------------------------
 
@@ -121,7 +133,7 @@ step-plays : (B : List ℤ) (code r c : ℕ) (d : Desk) (work : List ℕ) → po
 unfolding stepOf lentRefusal positionCheck
 step-plays B code r c d work e =
     let t = workFits (d .position .settings) work in
-    tested t (lentRefusal B d work) (played (stepOn B code r c d) work) d work (more-to-fit (boardsFit (d .position .settings) B (d .shown) (d .bits)) t B d e)
+    tested t (lentRefusal B d work) (played (stepOn B code r c d) work) B d work (more-to-fit (boardsFit (d .position .settings) B (d .shown) (d .bits)) t B d e)
     ∙ ap (λ (o : Play). pick t o (done 21 d)) (played-play (stepOn B code r c d) work)
 
 -- ---- step_flow -----------------------------------------------------------------------------------------------------------------------------
@@ -139,7 +151,7 @@ flow-plays : (B : List ℤ) (events : List ℕ) (d : Desk) (work : List ℕ) →
 unfolding flowOf flowRefusal positionCheck whole
 flow-plays B events d work e =
     let t = workFits (d .position .settings) work && whole events in
-    tested t (flowRefusal B events d work) (flowed (plays B events d) (lastPlay (done 0 d) (plays B events d)) work) d work
+    tested t (flowRefusal B events d work) (flowed (plays B events d) (lastPlay (done 0 d) (plays B events d)) work) B d work
     (more-to-fit (boardsFit (d .position .settings) B (d .shown) (d .bits)) t B d e)
 
 -- the last play of a flow is quiet
@@ -196,3 +208,25 @@ module _ (B : List ℤ) (d : Desk) (work : List ℕ) (o : Outcome) where
   pub call-keeps : (f : Function) → CallIs f B d work o → positionCheck B d ≡ 0 → positionCheck B (leftBy o) ≡ 0
   call-keeps (step code row column) c e = rw c (step-call-keeps B code row column d work e)
   call-keeps (flow events) c e = rw c (flow-call-keeps B events d work e)
+
+-- ---- no place ------------------------------------------------------------------------------------------------------------------------------
+
+played-place : (o : Play) (work : List ℕ) → played o work .answer .place ≡ Nowhere
+played-place o work = go (leb 20 (o .answer))
+  where
+    go : (b : Bool) → pick b (refused (o .answer) (o .desk) work) (accepted (o .answer) (o .desk) work) .answer .place ≡ Nowhere
+    go true = refl
+    go false = refl
+
+pub placeless : Placeless
+unfolding stepOf flowOf lentRefusal flowRefusal positionCheck whole
+placeless (step code r c) B d work o e h =
+    let t = workFits (d .position .settings) work in
+    ap (λ (x : Outcome). x .answer .place) h
+    ∙ tested-place t (lentRefusal B d work) (played (stepOn B code r c d) work) B d work
+    (more-to-fit (boardsFit (d .position .settings) B (d .shown) (d .bits)) t B d e) (played-place (stepOn B code r c d) work)
+placeless (flow events) B d work o e h =
+    let t = workFits (d .position .settings) work && whole events in
+    ap (λ (x : Outcome). x .answer .place) h
+    ∙ tested-place t (flowRefusal B events d work) (flowed (plays B events d) (lastPlay (done 0 d) (plays B events d)) work) B d work
+    (more-to-fit (boardsFit (d .position .settings) B (d .shown) (d .bits)) t B d e) refl

@@ -7,9 +7,10 @@ use Prim.Native.Nat.{ℕ, _≤_}
 use lib.IntN.{ℤ}
 use Rattle.rules.specs.declared.Settings.{Settings}
 use Rattle.rules.specs.declared.Answer.{Answer}
+use Rattle.rules.specs.declared.Place.the-variants.{Nowhere}
 use Rattle.rules.specs.Clicks.{Desk, Play, desk, done}
 use Rattle.rules.specs.Step.{stepOn}
-use Rattle.rules.specs.Calls.{leftBy, Outcome, workFits, setupOf}
+use Rattle.rules.specs.Calls.{leftBy, Outcome, workFits, setupOf, positionCheck}
 use Rattle.rules.specs.Promises.{SetupIs, StepIs, StepFlowIs}
 use Rattle.secrecy.specs.Demand.{seenAll, game, endOf, Twins}
 
@@ -60,6 +61,10 @@ abbrev pub CodeDemand : Type 0
 CodeDemand =
     (s : Settings) (calls : List Call) (A B : List ℤ) (os ps : List Play) → Game s calls A os → Game s calls B ps → Twins s (endOf s os) A B
     → seenAll os ≡ seenAll ps
+
+-- what an answer has beside them says nothing: a call of such a game has no place
+abbrev pub Placeless : Type 0
+Placeless = (f : Function) (B : List ℤ) (d : Desk) (work : List ℕ) (o : Outcome) → positionCheck B d ≡ 0 → CallIs f B d work o → o .answer .place ≡ Nowhere
 
 -- ---- the games themselves --------------------------------------------------------------------------------------------------------------
 

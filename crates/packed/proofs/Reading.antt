@@ -10,10 +10,12 @@ use Rattle.rules.specs.declared.MouseState.{MouseState}
 use Rattle.rules.specs.declared.Counts.{Counts}
 use Rattle.rules.specs.declared.Secrets.{Secrets}
 use Rattle.rules.specs.declared.Position.{Position}
+use Rattle.rules.specs.declared.Answer.{Answer}
 use Rattle.rules.specs.Words.{bit}
 use Rattle.rules.specs.States.{gameNumber, gameAt, mouseNumber, mouseAt}
+use Rattle.rules.specs.Board.{rowByte, columnByte}
 use Rattle.packed.specs.Packed.{fourAt, yes, settingsIn, countsIn, secretsIn, positionIn}
-use Rattle.packed.specs.Line.{numbersOf}
+use Rattle.packed.specs.Line.{answerNumbers}
 
 abbrev countsOf : ℕ → ℕ → ℕ → ℕ → ℕ → ℕ → Counts
 countsOf l r d c e f = record { left = l; right = r; double = d; lce = c; dce = e; flag = f }
@@ -37,8 +39,9 @@ pub position-read : (s : List ℕ) {st : Settings} {g : GameState} {m : MouseSta
 position-read s hst hg hm hp he hc hk = rw (hst, hg, hm, hp, he, hc, hk)
 
 -- what stands for each number that a function of its own gives
-pub numbers-are : (p : Position) {r c m q g g′ o o′ b : ℕ} → r ≡ p .settings .rows → c ≡ p .settings .columns → m ≡ p .settings .mode → q ≡ bit (p .settings .question)
+pub numbers-are : (a : Answer) {x x′ y y′ r c m q g g′ o o′ b : ℕ} → let p = a .position in x ≡ x′ → x′ ≡ rowByte (a .place) → y ≡ y′ → y′ ≡ columnByte (a .place)
+    → r ≡ p .settings .rows → c ≡ p .settings .columns → m ≡ p .settings .mode → q ≡ bit (p .settings .question)
     → g ≡ g′ → g′ ≡ gameNumber (p .game) → o ≡ o′ → o′ ≡ mouseNumber (p .mouse) → b ≡ bit (p .middle)
-    → r ∷ c ∷ m ∷ q ∷ g ∷ o ∷ b ∷ p .preflags ∷ p .events ∷ p .counts .left ∷ p .counts .right ∷ p .counts .double ∷ p .counts .lce ∷ p .secrets .rce ∷ p .counts .dce ∷ p .counts .flag ∷ p .secrets .«solved_left» ∷ p .secrets .«solved_chord» ∷ []
-    ≡ numbersOf p
-numbers-are p hr hc hm hq hg hg′ ho ho′ hb = rw (hr, hc, hm, hq, hg, hg′, ho, ho′, hb)
+    → x ∷ y ∷ r ∷ c ∷ m ∷ q ∷ g ∷ o ∷ b ∷ p .preflags ∷ p .events ∷ p .counts .left ∷ p .counts .right ∷ p .counts .double ∷ p .counts .lce ∷ p .secrets .rce ∷ p .counts .dce ∷ p .counts .flag ∷ p .secrets .«solved_left» ∷ p .secrets .«solved_chord» ∷ []
+    ≡ answerNumbers a
+numbers-are a hx hx′ hy hy′ hr hc hm hq hg hg′ ho ho′ hb = rw (hx, hx′, hy, hy′, hr, hc, hm, hq, hg, hg′, ho, ho′, hb)

@@ -6,7 +6,7 @@ ghost use Prim.Native.Nat.{_<_, _≤_};
 ghost use lib.ListN.{length};
 ghost use Rattle.writing.specs.Put.{PutWithin};
 ghost use Rattle.packed.specs.Packed.{twoAt, fourAt, settingsIn, countsIn, secretsIn, positionIn, signedOf, signedAll};
-ghost use Rattle.packed.specs.Line.{numbersOf, outcomeLine, outcomeRoom};
+ghost use Rattle.packed.specs.Line.{answerNumbers, outcomeLine, outcomeRoom};
 use rules::Answer;
 use rules::Counts;
 use rules::Position;
@@ -121,16 +121,20 @@ pub fn sign_all(bytes: &[u8], mines: &mut [i8])
 
 // ---- the line of an outcome ------------------------------------------------------------------------------------------------------------
 
-// The eighteen numbers of a position.
-fn numbers(p: Position) -> [u32; 18]
-    ensures { λ r. ⌜ r ≡ numbersOf p ⌝ }
+// The two numbers of an answer's place, and the eighteen of its position.
+fn numbers(a: Answer) -> [u32; 20]
+    ensures { λ r. ⌜ r ≡ answerNumbers a ⌝ }
 {
+    let x = a.place;
+    let p = a.position;
     let s = p.settings;
     let g = p.game;
     let m = p.mouse;
     let c = p.counts;
     let k = p.secrets;
     [
+        writing::wide(rules::row_byte(x)),
+        writing::wide(rules::column_byte(x)),
         writing::wide(s.rows),
         writing::wide(s.columns),
         writing::wide(s.mode),
@@ -156,8 +160,7 @@ pub fn put_outcome(out: &mut [u8], a: Answer, shown: &[u8], bits: &[u8]) -> usiz
     requires { ⌜ outcomeRoom (length (now shown)) (length (now bits)) ≤ length (now out) ⌝ }
     ensures { λ r. ⌜ PutWithin (outcomeRoom (length (now (shown .entry))) (length (now (bits .entry)))) (outcomeLine a (now (shown .entry)) (now (bits .entry))) 0 (now (out .entry)) (now (out .exit)) r ⌝ }
 {
-    let p = a.position;
-    let ns = numbers(p);
+    let ns = numbers(a);
     let first = writing::put_decimal(&mut *out, 0, a.number as u32);
     let cells = writing::put_spaced(&mut *out, first, &ns);
     let bytes = writing::put_cells(&mut *out, cells, shown);

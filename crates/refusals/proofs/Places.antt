@@ -112,7 +112,7 @@ pub setup-rows : (s : Settings) (B : List ℤ) (shown bits : List ℕ) → setup
 unfolding setupRefusal
 setup-rows s B shown bits = settings-rows s (boardsFit s B shown bits) B
 
--- ---- 30 to 33, once 20 to 26 are silent ------------------------------------------------------------------------------------------------
+-- ---- 30 to 33, once 20 to 264 are silent ------------------------------------------------------------------------------------------------
 
 module _ (code : ℕ) (x : Pointer) (d : Desk) where
   by-game : (g : GameState) (e : Event) → eventRefusal g e d ≡ first (row 32 (preFlagOk g e d) ∷ row 33 (codeOk g e d) ∷ [])

@@ -69,7 +69,7 @@ module _ (s : Settings) (fit : Bool) (B : List ℤ) where
   pub rest-unheard : (rest : ℕ) → (settingsRefusal s fit B 0 ≡ 0 → ⊥) → settingsRefusal s fit B rest ≡ settingsRefusal s fit B 0
   rest-unheard rest h = rest-by rest ∙ ap (λ (t : Bool). pick t rest (settingsRefusal s fit B 0)) (ne-eqb _ _ h)
 
--- ---- 20 to 26 --------------------------------------------------------------------------------------------------------------------------
+-- ---- 20 to 264 -------------------------------------------------------------------------------------------------------------------------
 
 module _ (fit : Bool) (B : List ℤ) (d : Desk) (n : ℕ) (e : n ≡ settingsRefusal (d .position .settings) fit B 0) where
   pub position-refused : (n ≡ 0 → ⊥) → n ≡ positionRefusal fit B d
@@ -137,7 +137,7 @@ module _ (R C : ℕ) (B : List ℤ) (work : List ℕ) where
       )
 
 module _ (B : List ℤ) (d : Desk) (work : List ℕ) (n : ℕ) (e : n ≡ lentRefusal B d work) (z : n ≡ 0) where
-  -- 20 to 26 silent, with work
+  -- 20 to 264 silent, with work
   room : workRoom (cellsIn (d .position .settings)) ≤ length work
   unfolding lentRefusal positionRefusal workFits
   room =

@@ -18,7 +18,7 @@ use Rattle.rules.specs.Board.{valuesOk, numbersOk, someSafe, minesIn, mineOk}
 use Rattle.rules.specs.Lent.{workRoom}
 use Rattle.rules.specs.Clicks.{Desk}
 use Rattle.rules.specs.Step.{mouse, badPreFlag, isUnknown, errsPlaying, errsPreFlaging, plainOf}
-use Rattle.rules.specs.Lawful.{lawful}
+use Rattle.rules.specs.Lawful.{shownLawful, bitsLawful, countsLawful, statesLawful}
 use Rattle.rules.specs.Calls.{boardsFit, workFits, modeOk}
 
 -- a number, and the test whose failing it is given for
@@ -47,11 +47,11 @@ boardRows R C fit B = row 20 (sizeOk R C) ∷ row 21 fit ∷ row 22 (valuesOk B)
 abbrev pub settingsRows : Settings → Bool → List ℤ → List Row
 settingsRows s fit B = boardRows (s .rows) (s .columns) fit B ++ (row 25 (modeOk (s .mode)) ∷ [])
 
--- 26
+-- 261 to 264
 abbrev pub lawfulRows : List ℤ → Desk → List Row
-lawfulRows B d = row 26 (lawful B d) ∷ []
+lawfulRows B d = row 261 (shownLawful B d) ∷ row 262 (bitsLawful B d) ∷ row 263 (countsLawful d) ∷ row 264 (statesLawful B d) ∷ []
 
--- 20 to 26
+-- 20 to 264
 abbrev pub positionRows : Bool → List ℤ → Desk → List Row
 positionRows fit B d = settingsRows (d .position .settings) fit B ++ lawfulRows B d
 

@@ -1,11 +1,13 @@
--- The mine board: its values and numbers, the refusals 20 to 24, and numbering from a mine list.
+-- The mine board: its values and numbers, the refusals 20 to 24 and which cell is wrong, and numbering from a mine list.
 use mathlib.Core.Bool.{Bool, true, not, _&&_, _||_}
 use mathlib.Core.List.{List}
 use Prim.Native.Nat.{ℕ, zero, suc, _+_, _*_, _/_, _%_}
 use lib.Dec.{ltb, leb, eqb}
 use lib.ListN.{length, getD}
 use lib.IntN.{ℤ, pos, negsuc}
-use Rattle.rules.specs.Words.{pick, unless, every, inOrder}
+use Rattle.rules.specs.declared.Place.{Place}
+use Rattle.rules.specs.declared.Place.the-variants.{Nowhere, At}
+use Rattle.rules.specs.Words.{pick, unless, every, firstNot, inOrder}
 use Rattle.rules.specs.Grid.{sizeOk, cellOf, around}
 
 -- what a cell shows once it is open: its number, or 15 for a mine
@@ -32,8 +34,11 @@ abbrev pub valueOk : ℤ → Bool
 valueOk (pos n) = leb n 8
 valueOk (negsuc n) = eqb n 0
 
+abbrev pub valueOkAt : List ℤ → ℕ → Bool
+valueOkAt B i = valueOk (getD B i (pos 0))
+
 unfoldable pub valuesOk : List ℤ → Bool
-valuesOk B = every (λ i. valueOk (getD B i (pos 0))) (length B)
+valuesOk B = every (valueOkAt B) (length B)
 
 -- 23: a safe cell's number is its count of mine neighbours
 unfoldable pub numberOk : List ℤ → ℕ → ℕ → ℕ → Bool
@@ -58,6 +63,28 @@ boardRefusal R C fit B =
 -- the board check: 20 to 24, without shown board or bits
 unfoldable pub boardCheck : ℕ → ℕ → List ℤ → ℕ
 boardCheck R C B = boardRefusal R C (eqb (length B) (R * C)) B
+
+-- ---- which cell is wrong ---------------------------------------------------------------------------------------------------------------
+
+-- the row and the column of a cell
+abbrev pub placeOf : ℕ → ℕ → Place
+placeOf C i = At (i / C) (i % C)
+
+-- a place as two bytes; 255 255 is nowhere
+abbrev pub rowByte : Place → ℕ
+rowByte Nowhere = 255
+rowByte (At row column) = row
+
+abbrev pub columnByte : Place → ℕ
+columnByte Nowhere = 255
+columnByte (At row column) = column
+
+-- 22 and 23 carry the first faulty cell in row order, all other numbers none
+unfoldable pub faultOf : ℕ → ℕ → List ℤ → ℕ → Place
+faultOf R C B n =
+    pick (eqb n 22) (placeOf C (firstNot (valueOkAt B) (length B)))
+    (pick (eqb n 23) (placeOf C (firstNot (numberOk B R C) (length B)))
+    Nowhere)
 
 -- ---- numbering from a mine list: a row byte and a column byte for each mine, strictly rising in row order ----------------------------
 

@@ -9,10 +9,11 @@ use Rattle.rules.specs.declared.Position.{Position}
 use Rattle.rules.specs.declared.Settings.{Settings}
 use Rattle.rules.specs.declared.Answer.{Answer}
 use Rattle.rules.specs.declared.Value.{Value}
+use Rattle.rules.specs.declared.Place.the-variants.{Nowhere}
 use Rattle.rules.specs.declared.GameState.the-variants.{Loss}
 use Rattle.rules.specs.Words.{pick, unless}
 use Rattle.rules.specs.States.{freshOf, withGame}
-use Rattle.rules.specs.Board.{boardRefusal, numbered, numberingRefusal}
+use Rattle.rules.specs.Board.{boardRefusal, boardCheck, faultOf, numbered, numberingRefusal}
 use Rattle.rules.specs.Lent.{bitBytes, workRoom, workAfter}
 use Rattle.rules.specs.Judging.{total3bv, leftToSolve}
 use Rattle.rules.specs.Clicks.{Desk, Play, desk, done}
@@ -27,12 +28,20 @@ pub record Outcome : Type 0 where
   pub work : List ℕ
 
 abbrev pub answers : ℕ → Position → ℕ → Answer
-answers n p v = record { number = n; position = p; value = v }
+answers n p v = record { number = n; place = Nowhere; position = p; value = v }
+
+-- a refusal of what is given: the position as it was, and beside 22 and 23 the faulty cell of the board
+abbrev pub refuses : List ℤ → Position → ℕ → Answer
+refuses B p n = record { number = n; place = faultOf (p .settings .rows) (p .settings .columns) B n; position = p; value = 0 }
+
+-- what a check answers: its number, 0 too, with that cell
+abbrev pub checks : ℕ → ℕ → List ℤ → ℕ → Value
+checks R C B n = record { number = n; place = faultOf R C B n; value = 0 }
 
 abbrev pub cellsIn : Settings → ℕ
 cellsIn s = s .rows * s .columns
 
--- ---- lengths, modes and the refusals 20 to 26 ------------------------------------------------------------------------------------------
+-- ---- lengths, modes and the refusals 20 to 264 -----------------------------------------------------------------------------------------
 
 -- the mine board, the shown board and the bits have exactly their lengths
 unfoldable pub boardsFit : Settings → List ℤ → List ℕ → List ℕ → Bool
@@ -53,11 +62,11 @@ settingsRefusal s fit B rest =
     (unless 25 (modeOk (s .mode)) rest)
     (boardRefusal (s .rows) (s .columns) fit B)
 
--- 20 to 26
+-- 20 to 264
 unfoldable pub positionRefusal : Bool → List ℤ → Desk → ℕ
 positionRefusal fit B d = settingsRefusal (d .position .settings) fit B (lawfulRefusal B d)
 
--- the position check, callable by itself
+-- the chain of the position check, callable by itself
 unfoldable pub positionCheck : List ℤ → Desk → ℕ
 positionCheck B d = positionRefusal (boardsFit (d .position .settings) B (d .shown) (d .bits)) B d
 
@@ -65,6 +74,13 @@ positionCheck B d = positionRefusal (boardsFit (d .position .settings) B (d .sho
 unfoldable pub lentRefusal : List ℤ → Desk → List ℕ → ℕ
 lentRefusal B d work =
     positionRefusal (boardsFit (d .position .settings) B (d .shown) (d .bits) && workFits (d .position .settings) work) B d
+
+-- the board check and the position check: their number, with its place
+abbrev pub boardCheckOf : ℕ → ℕ → List ℤ → Value
+boardCheckOf R C B = checks R C B (boardCheck R C B)
+
+abbrev pub positionCheckOf : List ℤ → Desk → Value
+positionCheckOf B d = checks (d .position .settings .rows) (d .position .settings .columns) B (positionCheck B d)
 
 -- ---- setup and reset -------------------------------------------------------------------------------------------------------------------
 
@@ -85,23 +101,23 @@ abbrev pub setBy : SetUp → Desk
 setBy o = desk (o .answer .position) (o .shown) (o .bits)
 
 -- `otherwise` is the position that a refusal gives back
-unfoldable pub setupBy : ℕ → Position → Settings → List ℕ → List ℕ → SetUp
-setupBy n otherwise s shown bits =
+unfoldable pub setupBy : ℕ → List ℤ → Position → Settings → List ℕ → List ℕ → SetUp
+setupBy n B otherwise s shown bits =
     pick (eqb n 0)
     (setUp (answers 0 (freshDesk s .position) 0) (freshDesk s .shown) (freshDesk s .bits))
-    (setUp (answers n otherwise 0) shown bits)
+    (setUp (refuses B otherwise n) shown bits)
 
 unfoldable pub setupRefusal : Settings → List ℤ → List ℕ → List ℕ → ℕ
 setupRefusal s B shown bits = settingsRefusal s (boardsFit s B shown bits) B 0
 
 -- setup tests 20 to 25; it is given no position, so a refusal gives the fresh one back
 unfoldable pub setupOf : Settings → List ℤ → List ℕ → List ℕ → SetUp
-setupOf s B shown bits = setupBy (setupRefusal s B shown bits) (freshOf s) s shown bits
+setupOf s B shown bits = setupBy (setupRefusal s B shown bits) B (freshOf s) s shown bits
 
 -- reset is setup with the position's own settings
 unfoldable pub resetOf : List ℤ → Desk → SetUp
 resetOf B d =
-    setupBy (setupRefusal (d .position .settings) B (d .shown) (d .bits)) (d .position) (d .position .settings) (d .shown) (d .bits)
+    setupBy (setupRefusal (d .position .settings) B (d .shown) (d .bits)) B (d .position) (d .position .settings) (d .shown) (d .bits)
 
 -- ---- step ------------------------------------------------------------------------------------------------------------------------------
 
@@ -116,6 +132,10 @@ leftBy o = desk (o .answer .position) (o .shown) (o .bits)
 abbrev pub refused : ℕ → Desk → List ℕ → Outcome
 refused n d work = outcome (answers n (d .position) 0) (d .shown) (d .bits) work
 
+-- so does one of 20 to 264, with its place
+abbrev pub refusedAt : List ℤ → ℕ → Desk → List ℕ → Outcome
+refusedAt B n d work = outcome (refuses B (d .position) n) (d .shown) (d .bits) work
+
 abbrev pub accepted : ℕ → Desk → List ℕ → Outcome
 accepted n d work = outcome (answers n (d .position) 0) (d .shown) (d .bits) (workAfter (cellsIn (d .position .settings)) work)
 
@@ -126,7 +146,7 @@ played o work = pick (leb 20 (o .answer)) (refused (o .answer) (o .desk) work) (
 -- a step tests all, 20 to 33
 unfoldable pub stepOf : List ℤ → ℕ → ℕ → ℕ → Desk → List ℕ → Outcome
 stepOf B code r c d work =
-    pick (eqb (lentRefusal B d work) 0) (played (stepOn B code r c d) work) (refused (lentRefusal B d work) d work)
+    pick (eqb (lentRefusal B d work) 0) (played (stepOn B code r c d) work) (refusedAt B (lentRefusal B d work) d work)
 
 -- ---- step_flow -------------------------------------------------------------------------------------------------------------------------
 
@@ -165,34 +185,34 @@ flowRefusal B events d work =
     positionRefusal
     (boardsFit (d .position .settings) B (d .shown) (d .bits) && (workFits (d .position .settings) work && eqb (length events % 3) 0)) B d
 
--- step_flow tests 20 to 26 even for no events, and stops at the first refusal
+-- step_flow tests 20 to 264 even for no events, and stops at the first refusal
 unfoldable pub flowOf : List ℤ → List ℕ → Desk → List ℕ → Outcome
 flowOf B events d work =
     pick (eqb (flowRefusal B events d work) 0)
     (flowed (plays B events d) (lastPlay (done 0 d) (plays B events d)) work)
-    (refused (flowRefusal B events d work) d work)
+    (refusedAt B (flowRefusal B events d work) d work)
 
 -- ---- the other calls -------------------------------------------------------------------------------------------------------------------
 
--- step_game_state tests 20 to 26; "replay" (0) and "fail" (1) give Loss and answer 0 in any state, anything else 33; it counts no event
+-- step_game_state tests 20 to 264; "replay" (0) and "fail" (1) give Loss and answer 0 in any state, anything else 33; it counts no event
 unfoldable pub gameStateOf : List ℤ → ℕ → Desk → Answer
 gameStateOf B e d =
     pick (eqb (positionCheck B d) 0)
     (pick (leb e 1) (answers 0 (withGame (d .position) Loss) 0) (answers 33 (d .position) 0))
-    (answers (positionCheck B d) (d .position) 0)
+    (refuses B (d .position) (positionCheck B d))
 
--- get_bbbv_solved tests 20 to 26: both solved counts together
+-- get_bbbv_solved tests 20 to 264: both solved counts together
 unfoldable pub bbbvSolvedOf : List ℤ → Desk → Answer
 bbbvSolvedOf B d =
     pick (eqb (positionCheck B d) 0)
     (answers 0 (d .position) (d .position .secrets .«solved_left» + d .position .secrets .«solved_chord»))
-    (answers (positionCheck B d) (d .position) 0)
+    (refuses B (d .position) (positionCheck B d))
 
 pub record Asked : Type 0 where
   pub answer : Answer
   pub work : List ℕ
 
--- left to solve tests 20 to 26, with work
+-- left to solve tests 20 to 264, with work
 unfoldable pub leftToSolveOf : List ℤ → Desk → List ℕ → Asked
 leftToSolveOf B d work =
     pick (eqb (lentRefusal B d work) 0)
@@ -203,7 +223,7 @@ leftToSolveOf B d work =
           (d .position .secrets .«solved_chord»));
       work = workAfter (cellsIn (d .position .settings)) work;
     })
-    (record { answer = answers (lentRefusal B d work) (d .position) 0; work = work })
+    (record { answer = refuses B (d .position) (lentRefusal B d work); work = work })
 
 pub record Totalled : Type 0 where
   pub answer : Value
@@ -216,8 +236,8 @@ totalRefusal R C B work = boardRefusal R C (eqb (length B) (R * C) && leb (workR
 unfoldable pub totalOf : ℕ → ℕ → List ℤ → List ℕ → Totalled
 totalOf R C B work =
     pick (eqb (totalRefusal R C B work) 0)
-    (record { answer = record { number = 0; value = total3bv B R C }; work = workAfter (R * C) work })
-    (record { answer = record { number = totalRefusal R C B work; value = 0 }; work = work })
+    (record { answer = record { number = 0; place = Nowhere; value = total3bv B R C }; work = workAfter (R * C) work })
+    (record { answer = checks R C B (totalRefusal R C B work); work = work })
 
 pub record Numbered : Type 0 where
   pub number : ℕ

@@ -1,4 +1,4 @@
--- The lawful position, clause by clause, in four parts: shown values, bits, counts, and what the states ask.
+-- The lawful position, clause by clause, in four parts, each with its refusal: shown values 261, bits 262, counts 263, and what the states ask 264.
 use mathlib.Core.Bool.{Bool, true, false, not, _&&_, _||_}
 use mathlib.Core.List.{List}
 use Prim.Native.Nat.{ℕ, _+_, _*_}
@@ -97,6 +97,10 @@ statesLawful B d = gameLawful (d .position .game) B d && (not (isNotFlag (d .pos
 unfoldable pub lawful : List ℤ → Desk → Bool
 lawful B d = shownLawful B d && (bitsLawful B d && (countsLawful d && statesLawful B d))
 
--- the refusal of a position that is not lawful, or 0
+-- the refusal of a position that is not lawful, or 0: 261 to 264 in their order
 unfoldable pub lawfulRefusal : List ℤ → Desk → ℕ
-lawfulRefusal B d = unless 26 (lawful B d) 0
+lawfulRefusal B d =
+    unless 261 (shownLawful B d)
+    (unless 262 (bitsLawful B d)
+    (unless 263 (countsLawful d)
+    (unless 264 (statesLawful B d) 0)))

@@ -8,9 +8,8 @@ use Rattle.rules.specs.declared.Position.{Position}
 use Rattle.rules.specs.declared.Settings.{Settings}
 use Rattle.rules.specs.declared.Answer.{Answer}
 use Rattle.rules.specs.declared.Value.{Value}
-use Rattle.rules.specs.Board.{boardCheck}
 use Rattle.rules.specs.Clicks.{desk}
-use Rattle.rules.specs.Calls.{Numbered, Totalled, Asked, setUp, outcome, numberingOf, totalOf, setupOf, resetOf, positionCheck, stepOf, flowOf, gameStateOf, bbbvSolvedOf, leftToSolveOf}
+use Rattle.rules.specs.Calls.{Numbered, Totalled, Asked, setUp, outcome, numberingOf, totalOf, boardCheckOf, setupOf, resetOf, positionCheckOf, stepOf, flowOf, gameStateOf, bbbvSolvedOf, leftToSolveOf}
 
 -- an outcome: what is answered, with what the lent lists are then
 abbrev pub numbers : ℕ → List ℤ → Numbered
@@ -22,8 +21,8 @@ totals r work′ = record { answer = r; work = work′ }
 abbrev pub asks : Answer → List ℕ → Asked
 asks r work′ = record { answer = r; work = work′ }
 
-abbrev pub CheckBoardIs : ℕ → ℕ → List ℤ → ℕ → Type 0
-CheckBoardIs rows columns B r = r ≡ boardCheck rows columns B
+abbrev pub CheckBoardIs : ℕ → ℕ → List ℤ → Value → Type 0
+CheckBoardIs rows columns B r = r ≡ boardCheckOf rows columns B
 
 abbrev pub NumberMinesIs : ℕ → ℕ → List ℕ → List ℤ → ℕ → List ℤ → Type 0
 NumberMinesIs rows columns list B r B′ = numbers r B′ ≡ numberingOf rows columns list B
@@ -37,8 +36,8 @@ SetupIs s B shown bits r shown′ bits′ = setUp r shown′ bits′ ≡ setupOf
 abbrev pub ResetIs : Position → List ℤ → List ℕ → List ℕ → Answer → List ℕ → List ℕ → Type 0
 ResetIs p B shown bits r shown′ bits′ = setUp r shown′ bits′ ≡ resetOf B (desk p shown bits)
 
-abbrev pub CheckPositionIs : Position → List ℤ → List ℕ → List ℕ → ℕ → Type 0
-CheckPositionIs p B shown bits r = r ≡ positionCheck B (desk p shown bits)
+abbrev pub CheckPositionIs : Position → List ℤ → List ℕ → List ℕ → Value → Type 0
+CheckPositionIs p B shown bits r = r ≡ positionCheckOf B (desk p shown bits)
 
 abbrev pub StepIs : Position → ℕ → ℕ → ℕ → List ℤ → List ℕ → List ℕ → List ℕ → Answer → List ℕ → List ℕ → List ℕ → Type 0
 StepIs p code row column B shown bits work r shown′ bits′ work′ = outcome r shown′ bits′ work′ ≡ stepOf B code row column (desk p shown bits) work

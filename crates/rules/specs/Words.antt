@@ -1,4 +1,4 @@
--- The words that the chapters share: a choice, a refusal, counting and testing below a number, rounds, lists made in order.
+-- The words that the chapters share: a choice, a refusal, counting, testing and searching below a number, rounds, lists made in order.
 use mathlib.Core.Bool.{Bool, true, false, _&&_}
 use mathlib.Core.List.{List, [], _∷_, _++_}
 use Prim.Native.Nat.{ℕ, zero, suc, _+_}
@@ -28,6 +28,11 @@ count f (suc n) = count f n + bit (f n)
 unfoldable pub every : (ℕ → Bool) → ℕ → Bool
 every f zero = true
 every f (suc n) = every f n && f n
+
+-- the first number below n that fails a test, or n
+unfoldable pub firstNot : (ℕ → Bool) → ℕ → ℕ
+firstNot f zero = 0
+firstNot f (suc n) = pick (every f n) (n + bit (f n)) (firstNot f n)
 
 -- the values at 0 to n - 1, in order
 unfoldable pub inOrder : {A : Type 0} → (ℕ → A) → ℕ → List A

@@ -2,6 +2,7 @@
 // The contracts cite specs/States.antt, which gives document 01's number for every state.
 ghost use mathlib.Core.Path.{_≡_};
 ghost use Rattle.rules.specs.States.{gameNumber, gameAt, mouseNumber, mouseAt, withGame, withMouse, withMiddle, withPreflags, withEvents, withLeft, withRight, withDouble, withLce, withDce, withFlag, withRce, withSolvedLeft, withSolvedChord, zeroed, freshOf};
+ghost use Rattle.rules.specs.Board.{rowByte, columnByte};
 
 pub enum GameState {
     Ready,
@@ -88,9 +89,16 @@ pub struct Played {
     pub position: Position,
 }
 
-// What a public call answers: a number, the position, and beside them the value asked for, 0 where none is.
+// Where the fault is that a refusal is for: a cell beside 22 and 23, and beside no other number.
+pub enum Place {
+    Nowhere,
+    At { row: u8, column: u8 },
+}
+
+// What a public call answers: a number with its place, the position, and beside them the value asked for, 0 where none is.
 pub struct Answer {
     pub number: u16,
+    pub place: Place,
     pub position: Position,
     pub value: u32,
 }
@@ -98,6 +106,7 @@ pub struct Answer {
 // What a public call without a position answers.
 pub struct Value {
     pub number: u16,
+    pub place: Place,
     pub value: u32,
 }
 
@@ -167,6 +176,24 @@ pub fn mouse_at(n: u8) -> MouseState
         4 => MouseState::Chording,
         5 => MouseState::ChordingNotFlag,
         _ => MouseState::DownUpAfterChording,
+    }
+}
+
+pub fn row_byte(x: Place) -> u8
+    ensures { λ r. ⌜ r ≡ rowByte x ⌝ }
+{
+    match x {
+        Place::Nowhere => 255,
+        Place::At { row, column: _ } => row,
+    }
+}
+
+pub fn column_byte(x: Place) -> u8
+    ensures { λ r. ⌜ r ≡ columnByte x ⌝ }
+{
+    match x {
+        Place::Nowhere => 255,
+        Place::At { row: _, column } => column,
     }
 }
 

@@ -4,6 +4,7 @@ use native.Mathlib.Omega.{arith}
 use Rattle.rules.specs.Clicks.{desk}
 use Rattle.keep.proofs.Step.{pointer-inside}
 use Rattle.game.proofs.Steps.{step-bad, step-decoded, resolved-asks, resolved-refused, resolved-played}
+use Rattle.refusals.proofs.Faults.{lent-placeable}
 use Rattle.board.proofs.Stepping.{step-unfit, step-heard, step-done, settings-kept, played-small, refused-large, lent-room, lent-kept}
 use borrow.Author.Needs.{needs}
 use Rattle.board.proofs.step.Statement.{statement}
@@ -12,8 +13,8 @@ use Rattle.board.proofs.step.Tie as tie
 lent-refusal-requires : tie.Need-lent-refusal-requires
 lent-refusal-requires c κs = search needs
 
-answer-requires : tie.Need-answer-requires
-answer-requires c κs = search needs
+refuse-requires : tie.Need-refuse-requires
+refuse-requires c κs = lent-placeable _ _ _ _ (c .before .lent-refusal .ensures)
 
 same-length : tie.Need-same-length
 same-length c = search needs
@@ -25,7 +26,7 @@ same-length-3 : tie.Need-same-length-3
 same-length-3 c = search needs
 
 returns : tie.Need-returns
-returns c = let a = (c .before .before .before .before .before .before .before .before .before .args) in step-unfit _ (a .code) (a .row) (a .column) (a .p) _ _ _ _ (c .before .before .lent-refusal .ensures) _ (c .before .if1 .taken) (c .answer .ensures)
+returns c = let a = (c .before .before .before .before .before .before .before .before .before .args) in step-unfit _ (a .code) (a .row) (a .column) (a .p) _ _ _ _ (c .before .before .lent-refusal .ensures) _ (c .before .if1 .taken) (c .refuse .ensures)
 
 decode-requires : tie.Need-decode-requires
 decode-requires c κs = search needs
@@ -36,8 +37,8 @@ enum-known-x c = search needs
 enum-told : tie.Need-enum-told
 enum-told c = search needs
 
-answer-requires-2 : tie.Need-answer-requires-2
-answer-requires-2 c κs = search needs
+answer-requires : tie.Need-answer-requires
+answer-requires c κs = search needs
 
 same-length-4 : tie.Need-same-length-4
 same-length-4 c = search needs
@@ -50,7 +51,7 @@ same-length-6 c = search needs
 
 returns-2 : tie.Need-returns-2
 returns-2 c = let a = (c .before .before .before .before .before .before .before .before .before .before .before .before .before .args) in
-    step-heard _ (a .code) (a .row) (a .column) (a .p) _ _ _ _ (c .before .before .before .before .before .before .lent-refusal .ensures) 30 _ (c .before .before .before .before .before .if1 .left) (step-bad _ (a .code) (a .row) (a .column) (a .p) _ _ _ (c .before .before .before .decode .ensures) (c .before .enum-told .given .1)) (omega arith) (c .answer2 .ensures)
+    step-heard _ (a .code) (a .row) (a .column) (a .p) _ _ _ _ (c .before .before .before .before .before .before .lent-refusal .ensures) 30 _ (c .before .before .before .before .before .if1 .left) (step-bad _ (a .code) (a .row) (a .column) (a .p) _ _ _ (c .before .before .before .decode .ensures) (c .before .enum-told .given .1)) (omega arith) (c .answer .ensures)
 
 resolve-at-requires : tie.Need-resolve-at-requires
 resolve-at-requires c κs = search needs
@@ -58,8 +59,8 @@ resolve-at-requires c κs = search needs
 refusal-of-requires : tie.Need-refusal-of-requires
 refusal-of-requires c κs = search needs
 
-answer-requires-3 : tie.Need-answer-requires-3
-answer-requires-3 c κs = search needs
+answer-requires-2 : tie.Need-answer-requires-2
+answer-requires-2 c κs = search needs
 
 same-length-7 : tie.Need-same-length-7
 same-length-7 c = search needs
@@ -74,7 +75,7 @@ returns-3 : tie.Need-returns-3
 returns-3 c = let a = (c .before .before .before .before .before .before .before .before .before .before .before .before .before .before .before .before .before .before .args) in
     let k = c .before .before .refusal-of .ensures (a .bits .now) in
     let s = resolved-refused (a .mines .now) (a .code) _ (a .p) (a .shown .now) (a .bits .now) (c .before .before .before .before .resolve-at .result) (c .before .before .before .before .resolve-at .ensures _ _) _ k (c .before .if2 .taken) ∙ sym (step-decoded _ (a .code) (a .row) (a .column) (a .p) _ _ _ (c .before .before .before .before .before .before .before .before .decode .ensures) _ (c .before .before .before .before .before .before .x .given .1)) in
-    step-heard _ (a .code) (a .row) (a .column) (a .p) _ _ _ _ (c .before .before .before .before .before .before .before .before .before .before .before .lent-refusal .ensures) _ _ (c .before .before .before .before .before .before .before .before .before .before .if1 .left) s (refused-large (c .before .before .before .before .resolve-at .result .event) (desk (a .p) (a .shown .now) (a .bits .now)) _ k (c .before .if2 .taken)) (c .answer3 .ensures)
+    step-heard _ (a .code) (a .row) (a .column) (a .p) _ _ _ _ (c .before .before .before .before .before .before .before .before .before .before .before .lent-refusal .ensures) _ _ (c .before .before .before .before .before .before .before .before .before .before .if1 .left) s (refused-large (c .before .before .before .before .resolve-at .result .event) (desk (a .p) (a .shown .now) (a .bits .now)) _ k (c .before .if2 .taken)) (c .answer2 .ensures)
 
 blank-requires : tie.Need-blank-requires
 blank-requires c κs = let a = (c .before .before .before .before .before .before .before .before .before .before .before .before .before .before .before .before .before .before .args) in lent-room _ (desk (a .p) (a .shown .now) (a .bits .now)) _ _ (c .before .before .before .before .before .before .before .before .before .before .before .lent-refusal .ensures) (c .before .before .before .before .before .before .before .before .before .before .if1 .left)
@@ -88,8 +89,8 @@ play-event-requires c κs = let a = (c .before .before .before .before .before .
     let i = pointer-inside (a .p .settings) (a .row) (a .column) _ (sym (c .before .before .before .before .before .before .before .before .before .before .before .before .before .before .before .decode .ensures) ∙ c .before .before .before .before .before .before .before .before .before .before .before .before .before .x .given .1) in
     resolved-asks (a .mines .now) (a .code) _ (a .p) (a .shown .now) (a .bits .now) (c .before .before .before .before .before .before .before .before .before .before .before .resolve-at .result) (c .before .before .before .before .before .before .before .before .before .before .before .resolve-at .ensures _ _) _ _ (c .before .before .before .with-middle .ensures) l (c .before .before .before .before .before .before .blank .ensures .blank) i
 
-answer-requires-4 : tie.Need-answer-requires-4
-answer-requires-4 c κs = search needs
+answer-requires-3 : tie.Need-answer-requires-3
+answer-requires-3 c κs = search needs
 
 same-length-10 : tie.Need-same-length-10
 same-length-10 c = search needs
@@ -107,14 +108,14 @@ returns-4 c = let a = (c .before .before .before .before .before .before .before
     let k = c .before .before .before .before .before .before .before .before .before .before .before .before .before .before .before .before .before .before .refusal-of .ensures (a .bits .now) in
     let s = o .outcome ∙ sym (step-decoded _ (a .code) (a .row) (a .column) (a .p) _ _ _ (c .before .before .before .before .before .before .before .before .before .before .before .before .before .before .before .before .before .before .before .before .before .before .before .before .decode .ensures) _ (c .before .before .before .before .before .before .before .before .before .before .before .before .before .before .before .before .before .before .before .before .before .before .x .given .1) ∙ resolved-played (a .mines .now) (a .code) _ (a .p) (a .shown .now) (a .bits .now) (c .before .before .before .before .before .before .before .before .before .before .before .before .before .before .before .before .before .before .before .before .resolve-at .result) (c .before .before .before .before .before .before .before .before .before .before .before .before .before .before .before .before .before .before .before .before .resolve-at .ensures _ _) _ k (c .before .before .before .before .before .before .before .before .before .before .before .before .before .before .before .before .before .if2 .left) _ (c .before .before .before .before .before .before .before .before .before .before .before .before .with-middle .ensures)) in
     step-done _ (a .code) (a .row) (a .column) (a .p) _ _ _ _ (c .before .before .before .before .before .before .before .before .before .before .before .before .before .before .before .before .before .before .before .before .before .before .before .before .before .before .before .lent-refusal .ensures) _ _ _ _ _ _ (c .before .before .before .before .before .before .before .before .before .before .before .before .before .before .before .before .before .before .before .before .before .before .before .before .before .before .if1 .left) s (played-small _ (c .before .before .before .before .before .before .before .before .before .before .before .before .before .before .before .before .before .before .before .before .resolve-at .result .event) (desk (c .before .before .before .before .before .before .before .before .before .before .before .before .with-middle .result) (a .shown .now) (a .bits .now)) _ _ (o .outcome)) (o .same ∙ c .before .before .before .before .before .before .before .before .before .before .before .before .before .before .before .blank .ensures .cleared)
-    (settings-kept _ (a .code) (a .row) (a .column) (a .p) _ _ _ _ _ _ (lent-kept _ d _ _ (c .before .before .before .before .before .before .before .before .before .before .before .before .before .before .before .before .before .before .before .before .before .before .before .before .before .before .before .lent-refusal .ensures) (c .before .before .before .before .before .before .before .before .before .before .before .before .before .before .before .before .before .before .before .before .before .before .before .before .before .before .if1 .left)) s) (c .answer4 .ensures)
+    (settings-kept _ (a .code) (a .row) (a .column) (a .p) _ _ _ _ _ _ (lent-kept _ d _ _ (c .before .before .before .before .before .before .before .before .before .before .before .before .before .before .before .before .before .before .before .before .before .before .before .before .before .before .before .lent-refusal .ensures) (c .before .before .before .before .before .before .before .before .before .before .before .before .before .before .before .before .before .before .before .before .before .before .before .before .before .before .if1 .left)) s) (c .answer3 .ensures)
 
 pub step-spec : {M : Type 1} → statement M
 step-spec =
     tie.close
     (tie.spec
     lent-refusal-requires
-    answer-requires
+    refuse-requires
     same-length
     same-length-2
     same-length-3
@@ -122,14 +123,14 @@ step-spec =
     decode-requires
     enum-known-x
     enum-told
-    answer-requires-2
+    answer-requires
     same-length-4
     same-length-5
     same-length-6
     returns-2
     resolve-at-requires
     refusal-of-requires
-    answer-requires-3
+    answer-requires-2
     same-length-7
     same-length-8
     same-length-9
@@ -137,7 +138,7 @@ step-spec =
     blank-requires
     with-middle-requires
     play-event-requires
-    answer-requires-4
+    answer-requires-3
     same-length-10
     same-length-11
     same-length-12

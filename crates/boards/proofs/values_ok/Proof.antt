@@ -1,78 +1,22 @@
--- `boards::values_ok` meets its contract: the values before `i` are right; the first that is not answers for all. Assumes nothing.
-use mathlib.Core.Path.{sym, _≡_, refl}
-use mathlib.Core.Bool.{true}
-use Prim.Native.Nat.{_≤_, _-_}
-use native.Mathlib.Omega.{arith}
+-- `boards::values_ok` meets its contract: no value is wrong exactly where the search comes to the end. Assumes nothing.
+use mathlib.Core.Path.{ap, _∙_}
+use Prim.Native.Nat.{ℕ}
 use borrow.Author.Needs.{needs}
-use borrow.Author.Tests.{not-true, not-false}
-use lib.ListN.{length, getD}
-use lib.IntN.{pos}
-use Rattle.rules.specs.Board.{valuesOk, valueOk}
-use Rattle.rules.specs.Words.{every}
-use Rattle.cells.proofs.Words.{every-fails, every-turn}
-use Rattle.boards.proofs.Scans.{every-end}
-use Rattle.boards.proofs.Tests.{value-passed}
+use lib.Dec.{eqb}
+use lib.ListN.{length}
+use Rattle.rules.specs.Board.{valueOkAt, valuesOk}
+use Rattle.boards.proofs.Scans.{first-end}
 use Rattle.boards.proofs.values_ok.Statement.{statement}
 use Rattle.boards.proofs.values_ok.Tie as tie
 
-abbrev Inv-loop : tie.InvT-loop
-Inv-loop mines i₀ i = (i ≤ length mines) × (every (λ j. valueOk (getD mines j (pos 0))) i ≡ true)
+value-fault-requires : tie.Need-value-fault-requires
+value-fault-requires c κs = search needs
 
-abbrev μ-loop : tie.MeasureT-loop
-μ-loop mines i₀ i = length mines - i
-
-loop-holds : tie.Need-loop-holds Inv-loop μ-loop
-unfolding every
-loop-holds c = (omega arith, refl)
-
-shared-slice-copy-out-value-ok : tie.Need-shared-slice-copy-out-value-ok Inv-loop μ-loop
-shared-slice-copy-out-value-ok c = search needs
-
-value-ok-requires : tie.Need-value-ok-requires Inv-loop μ-loop
-value-ok-requires c κs = search needs
-
-returns : tie.Need-returns Inv-loop μ-loop
+returns : tie.Need-returns
 unfolding valuesOk
 returns c =
-    let B = c .before .before .before .before .before .args .mines .now in
-    sym
-    (every-fails (λ j. valueOk (getD B j (pos 0))) (length B) (c .before .before .before .before .loop .i) (search needs)
-    (value-passed (getD B (c .before .before .before .before .loop .i) (pos 0)) (record { sfits = c .before .before .value-ok-arg .given })
-    (c .before .value-ok .ensures) (not-true _ (c .if1 .taken))))
-
-add-i : tie.Need-add-i Inv-loop μ-loop
-add-i c = search needs
-
-loop-less : tie.Need-loop-less Inv-loop μ-loop
-loop-less c = search needs
-
-loop-again : tie.Need-loop-again Inv-loop μ-loop
-loop-again c =
-    let B = c .before .before .before .before .before .args .mines .now in (
-      search needs,
-      every-turn (λ j. valueOk (getD B j (pos 0))) (c .before .before .before .before .loop .i)
-          (c .before .before .before .before .loop .inv .1)
-          (value-passed (getD B (c .before .before .before .before .loop .i) (pos 0)) (record { sfits = c .before .before .value-ok-arg .given })
-          (c .before .value-ok .ensures) (not-false _ (c .if1 .left))),
-    )
-
-returns-2 : tie.Need-returns-2 Inv-loop μ-loop
-unfolding valuesOk
-returns-2 c =
-    let B = c .before .before .args .mines .now in
-    sym (every-end (λ j. valueOk (getD B j (pos 0))) (length B) (c .before .loop .i) (omega arith) (omega arith) (c .before .loop .inv .1))
+    let B = c .before .args .mines .now in
+    ap (λ (n : ℕ). eqb n (length B)) (c .value-fault .ensures) ∙ first-end (valueOkAt B) (length B)
 
 pub values-ok-spec : {M : Type 1} → statement M
-values-ok-spec =
-    tie.close
-    (tie.spec
-    Inv-loop
-    μ-loop
-    loop-holds
-    shared-slice-copy-out-value-ok
-    value-ok-requires
-    returns
-    add-i
-    loop-less
-    loop-again
-    returns-2)
+values-ok-spec = tie.close (tie.spec value-fault-requires returns)

@@ -1,18 +1,19 @@
 -- `calls::check_position` meets its contract.
-use mathlib.Core.Path.{sym, _∙_}
+use mathlib.Core.Path.{ap, _∙_}
+use Rattle.rules.specs.Calls.{checks}
+use Rattle.refusals.proofs.Faults.{check-placeable}
 use borrow.Author.Needs.{needs}
-use Rattle.refusals.proofs.Refusals.{check-is}
 use Rattle.calls.proofs.check_position.Statement.{statement}
 use Rattle.calls.proofs.check_position.Tie as tie
 
-boards-fit-requires : tie.Need-boards-fit-requires
-boards-fit-requires c κs = search needs
+check-refusal-requires : tie.Need-check-refusal-requires
+check-refusal-requires c κs = search needs
 
-position-refusal-requires : tie.Need-position-refusal-requires
-position-refusal-requires c κs = λ e. sym (c .boards-fit .ensures) ∙ e
+found-requires : tie.Need-found-requires
+found-requires c κs = check-placeable _ _ _ (c .check-refusal .ensures)
 
 returns : tie.Need-returns
-returns c = check-is _ _ _ _ (c .before .boards-fit .ensures) (c .position-refusal .ensures)
+returns c = c .found .ensures ∙ ap (checks _ _ _) (c .before .check-refusal .ensures)
 
 pub check-position-spec : {M : Type 1} → statement M
-check-position-spec = tie.close (tie.spec boards-fit-requires position-refusal-requires returns)
+check-position-spec = tie.close (tie.spec check-refusal-requires found-requires returns)

@@ -2,6 +2,7 @@
 use borrow.Author.Needs.{needs}
 use Rattle.rules.specs.Clicks.{desk}
 use Rattle.refusals.proofs.Refusals.{lent-mined, lent-solved}
+use Rattle.refusals.proofs.Faults.{lent-placeable}
 use Rattle.calls.proofs.Making.{left-refused, left-answered}
 use Rattle.calls.proofs.left_to_solve.Statement.{statement}
 use Rattle.calls.proofs.left_to_solve.Tie as tie
@@ -9,14 +10,14 @@ use Rattle.calls.proofs.left_to_solve.Tie as tie
 lent-refusal-requires : tie.Need-lent-refusal-requires
 lent-refusal-requires c κs = search needs
 
-answer-requires : tie.Need-answer-requires
-answer-requires c κs = search needs
+refuse-requires : tie.Need-refuse-requires
+refuse-requires c κs = lent-placeable _ _ _ _ (c .before .lent-refusal .ensures)
 
 same-length : tie.Need-same-length
 same-length c = search needs
 
 returns : tie.Need-returns
-returns c = left-refused _ _ _ _ (c .before .before .lent-refusal .ensures) _ (c .before .if1 .taken) (c .answer .ensures)
+returns c = left-refused _ _ _ _ (c .before .before .lent-refusal .ensures) _ (c .before .if1 .taken) (c .refuse .ensures)
 
 total-on-requires : tie.Need-total-on-requires
 total-on-requires c κs = lent-mined _ _ _ _ (c .before .before .lent-refusal .ensures) (c .before .if1 .left)
@@ -27,26 +28,26 @@ solved-requires c κs = lent-solved _ (desk (c .before .before .before .before .
 minus-requires : tie.Need-minus-requires
 minus-requires c κs = search needs
 
-answer-requires-2 : tie.Need-answer-requires-2
-answer-requires-2 c κs = search needs
+answer-requires : tie.Need-answer-requires
+answer-requires c κs = search needs
 
 same-length-2 : tie.Need-same-length-2
 same-length-2 c = search needs
 
 returns-2 : tie.Need-returns-2
-returns-2 c = left-answered _ _ _ _ (c .before .before .before .before .before .before .before .before .lent-refusal .ensures) _ _ _ _ _ (c .before .before .before .before .before .before .before .if1 .left) (c .before .before .before .before .before .total-on .ensures) (c .before .before .solved .ensures) (c .before .minus .ensures) (c .answer2 .ensures)
+returns-2 c = left-answered _ _ _ _ (c .before .before .before .before .before .before .before .before .lent-refusal .ensures) _ _ _ _ _ (c .before .before .before .before .before .before .before .if1 .left) (c .before .before .before .before .before .total-on .ensures) (c .before .before .solved .ensures) (c .before .minus .ensures) (c .answer .ensures)
 
 pub left-to-solve-spec : {M : Type 1} → statement M
 left-to-solve-spec =
     tie.close
     (tie.spec
     lent-refusal-requires
-    answer-requires
+    refuse-requires
     same-length
     returns
     total-on-requires
     solved-requires
     minus-requires
-    answer-requires-2
+    answer-requires
     same-length-2
     returns-2)

@@ -1,6 +1,7 @@
 -- `calls::reset` meets its contract.
 use borrow.Author.Needs.{needs}
 use Rattle.refusals.proofs.Refusals.{setup-fits}
+use Rattle.refusals.proofs.Faults.{setup-placeable}
 use Rattle.calls.proofs.Making.{reset-by}
 use Rattle.calls.proofs.reset.Statement.{statement}
 use Rattle.calls.proofs.reset.Tie as tie
@@ -9,7 +10,7 @@ setup-refusal-requires : tie.Need-setup-refusal-requires
 setup-refusal-requires c κs = search needs
 
 set-up-requires : tie.Need-set-up-requires
-set-up-requires c κs = setup-fits _ _ _ _ _ (c .before .before .setup-refusal .ensures)
+set-up-requires c κs = (setup-placeable _ _ _ _ _ (c .before .before .setup-refusal .ensures), setup-fits _ _ _ _ _ (c .before .before .setup-refusal .ensures))
 
 same-length : tie.Need-same-length
 same-length c = search needs

@@ -1,7 +1,8 @@
 -- `calls::setup` meets its contract.
 use borrow.Author.Needs.{needs}
 use Rattle.refusals.proofs.Refusals.{setup-fits}
-use Rattle.calls.proofs.Making.{setup-by}
+use Rattle.refusals.proofs.Faults.{setup-placeable}
+use Rattle.calls.proofs.Making.{fresh-placeable, setup-by}
 use Rattle.calls.proofs.setup.Statement.{statement}
 use Rattle.calls.proofs.setup.Tie as tie
 
@@ -12,7 +13,7 @@ fresh-requires : tie.Need-fresh-requires
 fresh-requires c κs = search needs
 
 set-up-requires : tie.Need-set-up-requires
-set-up-requires c κs = setup-fits _ _ _ _ _ (c .before .before .before .setup-refusal .ensures)
+set-up-requires c κs = (fresh-placeable _ _ (c .before .before .fresh .ensures) (setup-placeable _ _ _ _ _ (c .before .before .before .setup-refusal .ensures)), setup-fits _ _ _ _ _ (c .before .before .before .setup-refusal .ensures))
 
 same-length : tie.Need-same-length
 same-length c = search needs

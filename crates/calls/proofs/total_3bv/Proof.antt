@@ -1,19 +1,23 @@
 -- `calls::total_3bv` meets its contract.
 use mathlib.Core.Path.{sym, _∙_}
-use borrow.Author.Needs.{needs}
 use Rattle.refusals.proofs.Refusals.{total-mined}
+use Rattle.refusals.proofs.Faults.{total-placeable}
 use Rattle.calls.proofs.Making.{total-refused, total-answered}
+use borrow.Author.Needs.{needs}
 use Rattle.calls.proofs.total_3bv.Statement.{statement}
 use Rattle.calls.proofs.total_3bv.Tie as tie
 
 total-refusal-requires : tie.Need-total-refusal-requires
 total-refusal-requires c κs = search needs
 
+found-requires : tie.Need-found-requires
+found-requires c κs = total-placeable _ _ _ _ _ (c .before .total-refusal .ensures)
+
 same-length : tie.Need-same-length
 same-length c = search needs
 
 returns : tie.Need-returns
-returns c = total-refused _ _ _ _ _ (c .before .total-refusal .ensures) (c .if1 .taken)
+returns c = total-refused _ _ _ _ _ (c .before .before .total-refusal .ensures) _ (c .before .if1 .taken) (c .found .ensures)
 
 total-on-requires : tie.Need-total-on-requires
 total-on-requires c κs = total-mined _ _ _ _ (sym (c .before .before .total-refusal .ensures) ∙ c .before .if1 .left)
@@ -27,4 +31,11 @@ returns-2 c = total-answered _ _ _ _ _ (c .before .before .before .before .befor
 pub total-3bv-spec : {M : Type 1} → statement M
 total-3bv-spec =
     tie.close
-    (tie.spec total-refusal-requires same-length returns total-on-requires same-length-2 returns-2)
+    (tie.spec
+    total-refusal-requires
+    found-requires
+    same-length
+    returns
+    total-on-requires
+    same-length-2
+    returns-2)

@@ -1,7 +1,8 @@
 -- `calls::total_on` meets its contract: work is cleared before the count, which gives it back.
 use native.Mathlib.Omega.{arith}
 use borrow.Author.Needs.{needs}
-use Rattle.calls.proofs.Making.{mined-wide, room-wide, zeros-wide, total-small, total-made}
+use Rattle.boards.proofs.Tests.{mined-wide}
+use Rattle.calls.proofs.Making.{room-wide, zeros-wide, total-small, total-made}
 use Rattle.calls.proofs.total_on.Statement.{statement}
 use Rattle.calls.proofs.total_on.Tie as tie
 

@@ -1,6 +1,6 @@
 -- `console::lm_reset` meets its contract.
-use borrow.Author.Needs.{needs}
 use Rattle.console.proofs.Making.{reset-flat, reset-back}
+use borrow.Author.Needs.{needs}
 use Rattle.console.proofs.lm_reset.Statement.{statement}
 use Rattle.console.proofs.lm_reset.Tie as tie
 
@@ -22,8 +22,8 @@ same-length-2 c = search needs
 returns : tie.Need-returns
 returns c = reset-flat _ _ _ _ _ (c .before .before .before .before .before .before .before .before .before .position-in .ensures) _ _ _ (c .before .before .before .before .before .before .reset .ensures) _ (c .flat-answer .ensures) (c .before .if1 .taken)
 
-refused-requires : tie.Need-refused-requires
-refused-requires c κs = search needs
+gives-requires : tie.Need-gives-requires
+gives-requires c κs = search needs
 
 same-length-3 : tie.Need-same-length-3
 same-length-3 c = search needs
@@ -32,7 +32,7 @@ same-length-4 : tie.Need-same-length-4
 same-length-4 c = search needs
 
 returns-2 : tie.Need-returns-2
-returns-2 c = reset-back _ _ _ _ _ (c .before .before .before .before .before .before .before .before .before .position-in .ensures) _ _ _ (c .before .before .before .before .before .before .reset .ensures) _ (c .refused .ensures) (c .before .if1 .left)
+returns-2 c = reset-back _ _ _ _ _ (c .before .before .before .before .before .before .before .before .before .position-in .ensures) _ _ _ (c .before .before .before .before .before .before .reset .ensures) _ (c .gives .ensures) (c .before .if1 .left)
 
 pub lm-reset-spec : {M : Type 1} → statement M
 lm-reset-spec =
@@ -44,7 +44,7 @@ lm-reset-spec =
     same-length
     same-length-2
     returns
-    refused-requires
+    gives-requires
     same-length-3
     same-length-4
     returns-2)

@@ -1,28 +1,38 @@
--- `lawful::lawful_refusal` meets its contract.
-use Rattle.lawful.proofs.Tests.{all-four}
+-- `lawful::lawful_refusal` meets its contract: the first part that fails gives its number.
+use Rattle.lawful.proofs.Tests.{refused-shown, refused-bits, refused-counts, refused-states, refused-none}
+use borrow.Author.Needs.{needs}
 use Rattle.lawful.proofs.lawful_refusal.Statement.{statement}
 use Rattle.lawful.proofs.lawful_refusal.Tie as tie
 
 take-census-requires : tie.Need-take-census-requires
-take-census-requires c κs = c .before .before .pre .cells
+take-census-requires c κs = search needs
 
 shown-lawful-requires : tie.Need-shown-lawful-requires
-shown-lawful-requires c κs = (c .before .before .before .pre .same, (c .before .before .before .pre .valued, c .take-census .ensures))
-
-bits-lawful-requires : tie.Need-bits-lawful-requires
-bits-lawful-requires c κs = (c .before .before .before .before .pre .bytes, c .before .before .before .before .pre .valued)
-
-counts-lawful-requires : tie.Need-counts-lawful-requires
-counts-lawful-requires c κs = tt
-
-states-lawful-requires : tie.Need-states-lawful-requires
-states-lawful-requires c κs = (c .before .before .before .before .before .before .pre .same, (c .before .before .before .before .before .before .pre .valued, c .before .before .before .take-census .ensures))
+shown-lawful-requires c κs = search needs
 
 returns : tie.Need-returns
-returns c = all-four _ _ (c .before .before .before .before .shown-lawful .ensures _) (c .before .before .before .bits-lawful .ensures _ _) (c .before .before .counts-lawful .ensures _ _ (c .before .before .before .before .before .take-census .ensures)) (c .before .states-lawful .ensures _) (c .if1 .taken)
+returns c = refused-shown _ _ (c .before .shown-lawful .ensures _) (c .if1 .taken)
+
+bits-lawful-requires : tie.Need-bits-lawful-requires
+bits-lawful-requires c κs = search needs
 
 returns-2 : tie.Need-returns-2
-returns-2 c = all-four _ _ (c .before .before .before .before .shown-lawful .ensures _) (c .before .before .before .bits-lawful .ensures _ _) (c .before .before .counts-lawful .ensures _ _ (c .before .before .before .before .before .take-census .ensures)) (c .before .states-lawful .ensures _) (c .if1 .left)
+returns-2 c = refused-bits _ _ (c .before .before .before .shown-lawful .ensures _) (c .before .before .if1 .left) (c .before .bits-lawful .ensures _ _) (c .if2 .taken)
+
+counts-lawful-requires : tie.Need-counts-lawful-requires
+counts-lawful-requires c κs = search needs
+
+returns-3 : tie.Need-returns-3
+returns-3 c = refused-counts _ _ (c .before .before .before .before .before .shown-lawful .ensures _) (c .before .before .before .before .if1 .left) (c .before .before .before .bits-lawful .ensures _ _) (c .before .before .if2 .left) (c .before .counts-lawful .ensures _ _ (c .before .before .before .before .before .before .take-census .ensures)) (c .if3 .taken)
+
+states-lawful-requires : tie.Need-states-lawful-requires
+states-lawful-requires c κs = search needs
+
+returns-4 : tie.Need-returns-4
+returns-4 c = refused-states _ _ (c .before .before .before .before .before .before .before .shown-lawful .ensures _) (c .before .before .before .before .before .before .if1 .left) (c .before .before .before .before .before .bits-lawful .ensures _ _) (c .before .before .before .before .if2 .left) (c .before .before .before .counts-lawful .ensures _ _ (c .before .before .before .before .before .before .before .before .take-census .ensures)) (c .before .before .if3 .left) (c .before .states-lawful .ensures _) (c .if4 .taken)
+
+returns-5 : tie.Need-returns-5
+returns-5 c = refused-none _ _ (c .before .before .before .before .before .before .before .shown-lawful .ensures _) (c .before .before .before .before .before .before .if1 .left) (c .before .before .before .before .before .bits-lawful .ensures _ _) (c .before .before .before .before .if2 .left) (c .before .before .before .counts-lawful .ensures _ _ (c .before .before .before .before .before .before .before .before .take-census .ensures)) (c .before .before .if3 .left) (c .before .states-lawful .ensures _) (c .if4 .left)
 
 pub lawful-refusal-spec : {M : Type 1} → statement M
 lawful-refusal-spec =
@@ -30,8 +40,11 @@ lawful-refusal-spec =
     (tie.spec
     take-census-requires
     shown-lawful-requires
-    bits-lawful-requires
-    counts-lawful-requires
-    states-lawful-requires
     returns
-    returns-2)
+    bits-lawful-requires
+    returns-2
+    counts-lawful-requires
+    returns-3
+    states-lawful-requires
+    returns-4
+    returns-5)

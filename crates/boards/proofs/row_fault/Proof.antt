@@ -1,4 +1,4 @@
--- `boards::row_ok` meets its contract: the numbers of the row before `column` are right. Assumes nothing.
+-- `boards::row_fault` meets its contract: the numbers of the row before `column` are right. Assumes nothing.
 use mathlib.Core.Path.{_≡_, refl, sym}
 use mathlib.Core.Bool.{true}
 use Prim.Native.Nat.{_≤_, _-_}
@@ -7,12 +7,11 @@ use borrow.Author.Needs.{needs}
 use Rattle.rules.specs.Words.{every}
 use Rattle.rules.specs.Grid.{cellOf}
 use Rattle.rules.specs.Board.{numberOk}
-use Rattle.cells.proofs.Words.{every-fails, every-turn}
-use Rattle.boards.specs.Rows.{rowOk}
-use Rattle.boards.proofs.Scans.{every-end}
+use Rattle.cells.proofs.Words.{every-turn}
+use Rattle.boards.proofs.Scans.{first-at, first-past}
 use Rattle.boards.proofs.Tests.{says-no, says-yes}
-use Rattle.boards.proofs.row_ok.Statement.{statement}
-use Rattle.boards.proofs.row_ok.Tie as tie
+use Rattle.boards.proofs.row_fault.Statement.{statement}
+use Rattle.boards.proofs.row_fault.Tie as tie
 
 abbrev Inv-loop : tie.InvT-loop
 Inv-loop mines rows columns row column₀ column = (column ≤ columns) × (every (λ j. numberOk mines rows columns (cellOf columns row j)) column ≡ true)
@@ -28,12 +27,11 @@ number-ok-requires : tie.Need-number-ok-requires Inv-loop μ-loop
 number-ok-requires c κs = (c .before .before .pre .0, (c .before .before .pre .1, search needs))
 
 returns : tie.Need-returns Inv-loop μ-loop
-unfolding rowOk
 returns c =
     let a = c .before .before .before .before .args in
     sym
-    (every-fails (λ j. numberOk (a .mines .now) (a .rows) (a .columns) (cellOf (a .columns) (a .row) j)) (a .columns)
-    (c .before .before .before .loop .column) (search needs) (says-no (c .before .number-ok .ensures) (c .if1 .taken)))
+    (first-at (λ j. numberOk (a .mines .now) (a .rows) (a .columns) (cellOf (a .columns) (a .row) j)) (a .columns)
+    (c .before .before .before .loop .column) (search needs) (c .before .before .before .loop .inv .1) (says-no (c .before .number-ok .ensures) (c .if1 .taken)))
 
 add-column : tie.Need-add-column Inv-loop μ-loop
 add-column c = search needs
@@ -50,15 +48,14 @@ loop-again c =
     )
 
 returns-2 : tie.Need-returns-2 Inv-loop μ-loop
-unfolding rowOk
 returns-2 c =
     let a = c .before .before .args in
     sym
-    (every-end (λ j. numberOk (a .mines .now) (a .rows) (a .columns) (cellOf (a .columns) (a .row) j)) (a .columns) (c .before .loop .column)
+    (first-past (λ j. numberOk (a .mines .now) (a .rows) (a .columns) (cellOf (a .columns) (a .row) j)) (a .columns) (c .before .loop .column)
     (omega arith) (omega arith) (c .before .loop .inv .1))
 
-pub row-ok-spec : {M : Type 1} → statement M
-row-ok-spec =
+pub row-fault-spec : {M : Type 1} → statement M
+row-fault-spec =
     tie.close
     (tie.spec
     Inv-loop

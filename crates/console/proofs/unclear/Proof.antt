@@ -1,0 +1,13 @@
+-- `console::unclear` meets its contract.
+use borrow.Author.Tests.{eq-eqb, ne-eqb}
+use Rattle.console.proofs.unclear.Statement.{statement}
+use Rattle.console.proofs.unclear.Tie as tie
+
+returns : tie.Need-returns
+returns c = simp (ne-eqb _ _ (c .if1 .taken))
+
+returns-2 : tie.Need-returns-2
+returns-2 c = simp (eq-eqb _ _ (c .if1 .left))
+
+pub unclear-spec : {M : Type 1} → statement M
+unclear-spec = tie.close (tie.spec returns returns-2)
