@@ -1,5 +1,5 @@
-// Plays through the library from C: a book's game that is won, printed as document 01 prints it, a game that is lost, a board that was typed
-// wrong, and what is refused. Every number that comes back is held to what it must be; the status is 1 if one is not.
+// Plays through the library from C: a book's game that is won, printed as document 01 prints it, a game that is lost, with the buzzer's ticks, a
+// board that was typed wrong, and what is refused. Every number that comes back is held to what it must be; the status is 1 if one is not.
 #include <stdio.h>
 #include <stdlib.h>
 #include <string.h>
@@ -51,6 +51,14 @@ static lm_position begin(uint8_t rows, uint8_t columns, const uint8_t *list, siz
     lm_answer a = lm_setup(rows, columns, 0, 0, mines, LM_CELLS(rows, columns), shown, LM_CELLS(rows, columns), bits, LM_BITS(rows, columns));
     expect("setup", a.number, LM_NOTHING);
     return a.position;
+}
+
+// The buzzer: one tick for each cell that the event opened.
+static void buzz(lm_answer a)
+{
+    for (uint32_t n = 0; n < a.value; n++)
+        printf(n == 0 ? "tick" : " tick");
+    if (a.value > 0) printf("\n");
 }
 
 // The shown board. A display is handed this, the states and the counts; a secret only once the game is over.
@@ -116,10 +124,13 @@ static void lost(void)
     p = step(p, LM_LC, 1, 1).position;
     lm_answer a = step(p, LM_LR, 1, 1);
     expect("an opening", a.number, LM_OPENED);
+    buzz(a);
     p = step(a.position, LM_RC, 2, 0).position;
     p = step(p, LM_RR, 2, 0).position;
     a = step(p, LM_MR, 1, 1);
     expect("a chord on a mine", a.number, LM_HIT);
+    expect("its safe cells", a.value, 6);
+    buzz(a);
     p = a.position;
     expect("the game", p.game, LM_LOSS);
     expect("solved by chords", p.solved_chord, 1);

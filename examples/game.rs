@@ -3,7 +3,7 @@
 #[allow(dead_code)] // the wrapper offers more than this game needs
 mod liftmanger;
 
-use liftmanger::{Answer, Code, Game, GameState, MouseState, Pointer, Refusal, Settings, View};
+use liftmanger::{Answer, Code, Game, GameState, MouseState, Pointer, Refusal, Settings, Step, View};
 
 /// The display: it gets a view, and prints it.
 fn display(view: View<'_>) {
@@ -18,6 +18,14 @@ fn by_hand(rows: u8, columns: u8) -> Settings {
     Settings { rows, columns, mode: 0, question: false }
 }
 
+/// The buzzer: one tick for each cell that the event opened.
+fn buzz(step: Step) -> Step {
+    if step.opened > 0 {
+        println!("{}", vec!["tick"; step.opened as usize].join(" "));
+    }
+    step
+}
+
 fn at_no_cell(number: u32) -> Refusal {
     Refusal { number, place: None }
 }
@@ -27,15 +35,17 @@ fn won() -> Result<(), Refusal> {
     let fresh = game.view().settings;
     assert!(game.over().is_none(), "the secrets of a game that runs");
     let left = Pointer::Cell(0, 0);
-    assert_eq!(game.step(Code::Lc, left), Ok(Answer::Nothing));
-    assert_eq!(game.step(Code::Lr, left), Ok(Answer::Opened));
+    assert_eq!(game.step(Code::Lc, left), Ok(Step { answer: Answer::Nothing, opened: 0 }));
+    assert_eq!(game.step(Code::Lr, left), Ok(Step { answer: Answer::Opened, opened: 1 }));
     // Two cores: while the display's thread has the view, the game is not stepped; when it is done, the game is this thread's again.
     std::thread::scope(|s| {
         let view = game.view();
         s.spawn(move || display(view));
     });
+    let open = game.view().open();
     game.step_flow(&[[2, 0, 1], [3, 0, 1], [0, 0, 2], [1, 0, 2]])?;
     let view = game.view();
+    assert_eq!(view.open() - open, 1);
     assert_eq!((view.game, view.mouse, view.events), (GameState::Win, MouseState::UpUp, 6));
     assert_eq!((view.left, view.right, view.doubles, view.lce, view.dce, view.flag), (2, 1, 0, 2, 0, 1));
     assert_eq!(view.shown, [1, 11, 1]);
@@ -57,10 +67,10 @@ fn lost() -> Result<(), Refusal> {
     let mut game = Game::<9, 2, 80>::new(by_hand(3, 3), &[[2, 2]])?;
     let (middle, corner) = (Pointer::Cell(1, 1), Pointer::Cell(2, 0));
     game.step(Code::Lc, middle)?;
-    assert_eq!(game.step(Code::Lr, middle), Ok(Answer::Opened));
-    assert_eq!(game.step(Code::Rc, corner), Ok(Answer::Flagged));
+    assert_eq!(buzz(game.step(Code::Lr, middle)?), Step { answer: Answer::Opened, opened: 1 });
+    assert_eq!(game.step(Code::Rc, corner), Ok(Step { answer: Answer::Flagged, opened: 0 }));
     game.step(Code::Rr, corner)?;
-    assert_eq!(game.step(Code::Mr, middle), Ok(Answer::Hit));
+    assert_eq!(buzz(game.step(Code::Mr, middle)?), Step { answer: Answer::Hit, opened: 6 });
     let view = game.view();
     assert_eq!(view.game, GameState::Loss);
     assert_eq!(view.shown, [0, 0, 0, 0, 1, 1, 14, 1, 15]);
@@ -79,7 +89,7 @@ fn refused() -> Result<(), Refusal> {
     assert_eq!(wrong, Some(Refusal { number: 23, place: Some([1, 1]) }));
     let mut game = liftmanger::Expert::new(by_hand(16, 30), &[[0, 0], [15, 29]])?;
     assert_eq!(game.step(Code::Lc, Pointer::Cell(16, 0)), Err(at_no_cell(30)));
-    assert_eq!(game.step(Code::Mv, Pointer::Off), Ok(Answer::Nothing));
+    assert_eq!(game.step(Code::Mv, Pointer::Off), Ok(Step { answer: Answer::Nothing, opened: 0 }));
     assert_eq!(game.view().events, 1);
     game.give_up();
     assert_eq!(game.view().game, GameState::Loss);

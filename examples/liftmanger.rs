@@ -144,6 +144,13 @@ pub enum Answer {
     Hit,
 }
 
+/// An accepted event: its answer, and how many cells it opened, the automatic passes' too. The buzzer ticks once for each.
+#[derive(Clone, Copy, Debug, PartialEq, Eq)]
+pub struct Step {
+    pub answer: Answer,
+    pub opened: u32,
+}
+
 #[derive(Clone, Copy, Debug, PartialEq, Eq)]
 pub enum GameState {
     Ready,
@@ -214,6 +221,13 @@ pub struct View<'a> {
     pub dce: u32,
     pub flag: u32,
     pub shown: &'a [u8],
+}
+
+impl View<'_> {
+    /// How many cells are open: they show 0 to 8.
+    pub fn open(&self) -> usize {
+        self.shown.iter().filter(|&&cell| cell <= 8).count()
+    }
 }
 
 /// What may be shown once the game is over.
@@ -288,7 +302,7 @@ impl<const CELLS: usize, const BITS: usize, const WORK: usize> Game<CELLS, BITS,
     }
 
     /// One event.
-    pub fn step(&mut self, code: Code, pointer: Pointer) -> Result<Answer, Refusal> {
+    pub fn step(&mut self, code: Code, pointer: Pointer) -> Result<Step, Refusal> {
         let (row, column) = match pointer {
             Pointer::Cell(row, column) => (row, column),
             Pointer::Off => (self.position.rows, self.position.columns),
@@ -314,6 +328,7 @@ impl<const CELLS: usize, const BITS: usize, const WORK: usize> Game<CELLS, BITS,
     }
 
     /// A row of events as a book has them, code, row and column each, up to the first refused one; the steps before it are kept.
+    /// `View::open` before and after it tells how many cells the row opened.
     pub fn step_flow(&mut self, events: &[[u8; 3]]) -> Result<(), Refusal> {
         let events = events.as_flattened();
         // SAFETY: as in `step`; the events are the caller's and only read.
@@ -435,9 +450,10 @@ impl<const CELLS: usize, const BITS: usize, const WORK: usize> Game<CELLS, BITS,
     }
 
     /// A refusal gives the position back, so it is taken either way.
-    fn take(&mut self, a: raw::Answer) -> Result<Answer, Refusal> {
+    fn take(&mut self, a: raw::Answer) -> Result<Step, Refusal> {
         self.position = a.position;
-        accepted(a.number.into(), [a.row, a.column])
+        let answer = accepted(a.number.into(), [a.row, a.column])?;
+        Ok(Step { answer, opened: a.value })
     }
 }
 

@@ -17,7 +17,8 @@
  * events that is refused at a later event keeps the steps before it.)
  *
  * One owner. The core that steps owns the position and all lent memory for the length of the call. Between calls the display may be handed the
- * shown board, the states and the counts marked "may be shown", and nothing else: mines, bits and the secrets know what is hidden. */
+ * shown board, the states, the counts marked "may be shown" and what a step answered and opened, and nothing else: mines, bits and the secrets
+ * know what is hidden. */
 #ifndef LIFTMANGER_H
 #define LIFTMANGER_H
 
@@ -140,7 +141,8 @@ typedef struct lm_position {
     uint32_t solved_chord; /* 3BV solved by chords */
 } lm_position;
 
-/* A number, its place, the position after the call, and the value asked for, 0 where none is or the call was refused. */
+/* A number, its place, the position after the call, and the value: how many cells a step opened, or what was asked for; 0 where there is none or
+ * the call was refused. */
 typedef struct lm_answer {
     uint16_t number;     /* enum lm_number */
     uint8_t row, column; /* the faulty cell beside 22 and 23, else LM_NOWHERE */
@@ -197,12 +199,16 @@ lm_answer lm_reset(lm_position position, const int8_t *mines, size_t mines_lengt
 /* ---- a step, and a row of events ---- */
 
 /* One event: a code of enum lm_event at a cell, or at (rows, columns) for off the board. 20 to 33, or an answer 0 to 4. After Win or Loss every
- * event at such a pointer, an unknown code too, is accepted and answers 0. */
+ * event at such a pointer, an unknown code too, is accepted and answers 0.
+ * The value is how many cells the event opened, the buzzer's ticks: the cells that show 0 to 8 after the call less those before it, so not a mine
+ * that was hit. The cells of the automatic passes are among them, so it may be above 0 beside LM_NOTHING (a pass after a chord that could not run)
+ * and LM_FLAGGED; beside LM_HIT it is the safe cells of a lost chord, and 0 for a click. After Win or Loss, and beside a refusal, it is 0. */
 lm_answer lm_step(lm_position position, uint8_t code, uint8_t row, uint8_t column, const int8_t *mines, size_t mines_length, uint8_t *shown,
                   size_t shown_length, uint8_t *bits, size_t bits_length, uint16_t *work, size_t work_length);
 
 /* A row of events, three bytes each: code, row, column. 20 to 264 once, even for none; then the events, up to the first refused one, whose
- * number is answered; 0 where all were accepted. How many were is in position.events. */
+ * number is answered; 0 where all were accepted. How many were is in position.events. The value is 0: a caller who wants to know how many cells
+ * the row opened counts those of shown that are 0 to 8 before the call and after it, since shown is the caller's own; no open cell closes. */
 lm_answer lm_step_flow(lm_position position, const uint8_t *events, size_t events_length, const int8_t *mines, size_t mines_length,
                        uint8_t *shown, size_t shown_length, uint8_t *bits, size_t bits_length, uint16_t *work, size_t work_length);
 

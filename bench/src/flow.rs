@@ -42,16 +42,18 @@ fn bytes(events: &[Event]) -> Vec<u8> {
     events.iter().flat_map(|&(code, row, column)| [code, row as u8, column as u8]).collect()
 }
 
+/// The Rust's game when its events begin to count.
+fn begun(game: &Played) -> Original {
+    let mut board = original(game.board, game.mode);
+    for (word, place) in words(&game.before) {
+        board.step(word, place).expect("accepted");
+    }
+    board
+}
+
 impl Side for Theirs<'_> {
     fn prepare(&mut self) {
-        let fresh = |game: &Played| {
-            let mut board = original(game.board, game.mode);
-            for (word, place) in words(&game.before) {
-                board.step(word, place).expect("accepted");
-            }
-            board
-        };
-        self.originals = self.games.iter().map(fresh).collect();
+        self.originals = self.games.iter().map(begun).collect();
     }
 
     fn play(&mut self) {
@@ -91,14 +93,20 @@ pub fn one(way: Way, name: &str, by: By, games: &[Played]) {
     let mut theirs = Theirs { games, events, originals: Vec::new() };
     let mut ours = Ours { games, by, before, all, lent: Vec::new() };
     row(way, name, [&mut theirs, &mut ours]);
-    for (theirs, ours) in theirs.originals.iter().zip(&ours.lent) {
+    for ((game, theirs), ours) in games.iter().zip(&theirs.originals).zip(&ours.lent) {
         assert!(by == By::Step || ours.number == 0, "{name}: refused by {}", ours.number);
         assert!(same(&theirs.game_board, &ours.shown), "{name}: the boards differ");
-        assert!(counts(theirs) == ours.counts, "{name}: the counts differ");
+        let opened = if by == By::Step { open(theirs) - open(&begun(game)) } else { 0 };
+        assert!(counts(theirs, opened) == ours.counts, "{name}: the counts differ");
         assert!(ours.work.iter().all(|&value| value == 0), "{name}: the work is not 0 again");
     }
 }
 
-fn counts(o: &Original) -> [u32; 9] {
-    [o.left, o.right, o.double, o.lce, o.rce, o.dce, o.flag, o.bbbv_solved_left, o.bbbv_solved_chord].map(|n| n as u32)
+fn counts(o: &Original, opened: usize) -> [u32; 10] {
+    [o.left, o.right, o.double, o.lce, o.rce, o.dce, o.flag, o.bbbv_solved_left, o.bbbv_solved_chord, opened]
+        .map(|n| n as u32)
+}
+
+fn open(o: &Original) -> usize {
+    o.game_board.iter().flatten().filter(|&&value| value <= 8).count()
 }

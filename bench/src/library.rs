@@ -12,7 +12,7 @@ extern "C" {
         rows: usize,
         columns: usize,
         cell: u16,
-    ) -> bool;
+    ) -> u32;
 
     fn bench_flow(
         rows: u8,
@@ -71,8 +71,8 @@ extern "C" {
     ) -> usize;
 }
 
-/// Opens one cell; says whether a mine was hit. The work is all 0 before and after.
-pub fn refresh_board(board: &Board, shown: &mut [u8], work: &mut [u16], cell: usize) -> bool {
+/// Opens one cell; says how many cells it opened. The work is all 0 before and after.
+pub fn refresh_board(board: &Board, shown: &mut [u8], work: &mut [u16], cell: usize) -> u32 {
     let cells = board.cells();
     assert!(shown.len() == cells && work.len() >= 8 * cells + 8 && cell < cells);
     // SAFETY: the lengths are tested above, and a Board has values -1 to 8 and a size within the limits; so the contract's `requires` hold.
@@ -91,12 +91,12 @@ pub fn refresh_board(board: &Board, shown: &mut [u8], work: &mut [u16], cell: us
     }
 }
 
-/// What is lent to our functions for one game, with the number and the counts that come back.
+/// What is lent to our functions for one game, with the number and the counts that come back; the last is how many cells a step opened.
 pub struct Lent {
     pub shown: Vec<u8>,
     pub bits: Vec<u8>,
     pub work: Vec<u16>,
-    pub counts: [u32; 9],
+    pub counts: [u32; 10],
     pub number: u16,
 }
 
@@ -104,7 +104,7 @@ impl Lent {
     pub fn new(board: &Board) -> Lent {
         let cells = board.cells();
         let (shown, bits, work) = (vec![0; cells], vec![0; cells.div_ceil(8)], vec![0; 8 * cells + 8]);
-        Lent { shown, bits, work, counts: [0; 9], number: 0 }
+        Lent { shown, bits, work, counts: [0; 10], number: 0 }
     }
 }
 

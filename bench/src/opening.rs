@@ -15,6 +15,7 @@ struct Ours<'a> {
     boards: &'a [(Board, Calls)],
     shown: Vec<Vec<u8>>,
     work: Vec<u16>,
+    opened: u32,
 }
 
 impl Side for Theirs<'_> {
@@ -35,12 +36,13 @@ impl Side for Theirs<'_> {
 impl Side for Ours<'_> {
     fn prepare(&mut self) {
         self.shown = self.boards.iter().map(|(board, _)| vec![10; board.cells()]).collect();
+        self.opened = 0;
     }
 
     fn play(&mut self) {
         for ((board, calls), shown) in self.boards.iter().zip(&mut self.shown) {
             for &cell in calls {
-                library::refresh_board(board, shown, &mut self.work, cell);
+                self.opened += library::refresh_board(board, shown, &mut self.work, cell);
             }
         }
     }
@@ -88,9 +90,11 @@ fn one(way: Way, name: &str, size: (usize, usize), mines: usize, calls: fn(&Boar
         })
         .collect();
     let mut theirs = Theirs { boards: &boards, shown: Vec::new() };
-    let mut ours = Ours { boards: &boards, shown: Vec::new(), work: vec![0; 8 * size.0 * size.1 + 8] };
+    let mut ours = Ours { boards: &boards, shown: Vec::new(), work: vec![0; 8 * size.0 * size.1 + 8], opened: 0 };
     row(way, &format!("opening, {} x {}, {name}", size.0, size.1), [&mut theirs, &mut ours]);
     assert!(theirs.shown.iter().zip(&ours.shown).all(|(theirs, ours)| same(theirs, ours)), "{name}: the boards differ");
+    let open = ours.shown.iter().flatten().filter(|&&value| value <= 8).count();
+    assert!(ours.opened as usize == open, "{name}: the counts differ");
     assert!(ours.work.iter().all(|&value| value == 0), "{name}: the work is not 0 again");
 }
 

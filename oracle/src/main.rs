@@ -138,7 +138,7 @@ fn outcomes(line: fn(&Step) -> Result<String, String>) -> Outcome {
     Ok(true)
 }
 
-/// A promise of document 01 does not hold.
+/// A promise of the papers does not hold.
 fn broken(message: &str) -> Outcome {
     eprintln!("oracle: {message}");
     Ok(false)

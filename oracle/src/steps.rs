@@ -15,6 +15,7 @@
 //
 //   answer     0 to 4, or the refusal                                         1 number
 //   place      row and column of the faulty cell, or 255 255                  2 numbers
+//   opened     cells that show 0 to 8 after the step and did not before       1 number
 //   position   after the step, as above                                       18 numbers
 //   shown      after the step                                                 as many as were lent
 //   bits       after the step                                                 as many as were lent
@@ -58,6 +59,7 @@ pub struct Step {
 struct Outcome {
     answer: u16,
     place: Option<(usize, usize)>,
+    opened: usize,
     position: Position,
     lent: Lent,
 }
@@ -80,7 +82,7 @@ pub fn step(seed: u64, number: u64, start: Start) -> Result<Step, String> {
 }
 
 impl Step {
-    /// The line of the step's outcome; Err if the Rust breaks a promise of document 01 there.
+    /// The line of the step's outcome; Err if the Rust breaks a promise of the papers there.
     pub fn outcome_line(&self) -> Result<String, String> {
         Ok(spaced(&self.outcome()?.numbers()))
     }
@@ -103,12 +105,14 @@ impl Step {
         let Step { position, lent, work, .. } = self;
         if let Some(refusal) = refusal(position, lent, *work) {
             let (position, lent) = (position.clone(), lent.clone());
-            return Outcome { answer: refusal.number, place: refusal.place, position, lent };
+            return Outcome { answer: refusal.number, place: refusal.place, opened: 0, position, lent };
         }
         let mut game = Game::from_position(position, lent);
         let [code, row, column] = self.event;
         let answer = game.step(code, row.into(), column.into());
-        Outcome { answer, place: None, position: game.position(), lent: game.lent() }
+        let after = game.lent();
+        let opened = opened(&lent.shown, &after.shown);
+        Outcome { answer, place: None, opened, position: game.position(), lent: after }
     }
 
     fn broken_promise(&self, after: &Outcome) -> Option<&'static str> {
@@ -118,6 +122,9 @@ impl Step {
         }
         if after.answer < 20 && refusal(&after.position, &after.lent, self.work).is_some() {
             return Some("an accepted step left the lawful positions");
+        }
+        if open(&self.lent.shown) + after.opened != open(&after.lent.shown) {
+            return Some("what a step opened is not the open cells after less those before");
         }
         None
     }
@@ -137,12 +144,22 @@ impl Step {
 impl Outcome {
     fn numbers(&self) -> Vec<usize> {
         let (row, column) = self.place.unwrap_or((255, 255));
-        let mut numbers = vec![self.answer.into(), row, column];
+        let mut numbers = vec![self.answer.into(), row, column, self.opened];
         numbers.extend(self.position.numbers());
         extend(&mut numbers, &self.lent.shown);
         extend(&mut numbers, &self.lent.bits);
         numbers
     }
+}
+
+/// How many cells went from closed to showing 0 to 8, cell by cell.
+fn opened(before: &[u8], after: &[u8]) -> usize {
+    before.iter().zip(after).filter(|&(&before, &after)| before > 8 && after <= 8).count()
+}
+
+/// How many cells show 0 to 8.
+fn open(shown: &[u8]) -> usize {
+    shown.iter().filter(|&&cell| cell <= 8).count()
 }
 
 fn extend(numbers: &mut Vec<usize>, bytes: &[u8]) {

@@ -1,14 +1,14 @@
 // What the bench calls to open and to play: inner functions under plain names, numbers and slices only.
+ghost use mathlib.Core.Path.{_≡_};
 ghost use mathlib.Core.List.{[], _∷_};
 ghost use Prim.Native.Nat.{_*_, _<_};
 ghost use Rattle.rules.specs.Opening.{refreshed};
-ghost use Rattle.cells.specs.Contracts.{Laid, Leaves};
-ghost use Rattle.opening.specs.Parts.{opened};
+ghost use Rattle.cells.specs.Contracts.{Laid, Ticked};
 use rules::Answer;
 use rules::Position;
 use rules::Settings;
 
-// `opening::refresh_board` for one cell.
+// `opening::refresh_board` for one cell; gives how many cells it opened.
 #[no_mangle]
 pub extern "C" fn bench_refresh_board(
     mines: &[i8],
@@ -17,18 +17,19 @@ pub extern "C" fn bench_refresh_board(
     rows: usize,
     columns: usize,
     cell: u16,
-) -> bool
+) -> u32
     requires { ⌜ Laid (now mines) (now shown) (now work) rows columns ⌝ }
     requires { ⌜ cell < rows * columns ⌝ }
-    ensures { λ r. ⌜ Leaves (opened (now (shown .exit)) r) (refreshed (now (mines .entry)) rows columns (cell ∷ []) (now (shown .entry))) (now (work .entry)) (now (work .exit)) ⌝ }
+    ensures { λ r. ⌜ (now (shown .exit) ≡ refreshed (now (mines .entry)) rows columns (cell ∷ []) (now (shown .entry)) .shown) × (now (work .exit) ≡ now (work .entry)) × Ticked 0 (now (shown .entry)) r (now (shown .exit)) ⌝ }
 {
     let at = [cell, 0, 0, 0, 0, 0, 0, 0];
-    opening::refresh_board(mines, shown, work, rows, columns, rules::Cells { at, n: 1 })
+    let o = opening::refresh_board(mines, shown, work, rows, columns, rules::Cells { at, n: 1 });
+    o.opened
 }
 
-// A position's counts, in the printout's order, where there is room.
-fn tell(p: Position, counts: &mut [u32]) {
-    if counts.len() < 9 {
+// A position's counts, in the printout's order, and how many cells were opened, where there is room.
+fn tell(p: Position, opened: u32, counts: &mut [u32]) {
+    if counts.len() < 10 {
         return;
     }
     let all = [
@@ -41,8 +42,9 @@ fn tell(p: Position, counts: &mut [u32]) {
         p.counts.flag,
         p.secrets.solved_left,
         p.secrets.solved_chord,
+        opened,
     ];
-    for i in 0..9 {
+    for i in 0..10 {
         counts[i] = all[i];
     }
 }
@@ -86,7 +88,7 @@ pub extern "C" fn bench_flow(
     };
     let a = flow(settings, events, mines, &mut *shown, &mut *bits, &mut *work);
     let p = a.position;
-    tell(p, &mut *counts);
+    tell(p, a.value, &mut *counts);
     a.number
 }
 
@@ -126,6 +128,6 @@ pub extern "C" fn bench_step(
         &mut *work,
     );
     let q = o.position;
-    tell(q, &mut *counts);
+    tell(q, o.value, &mut *counts);
     o.number
 }

@@ -1,3 +1,4 @@
 pub mod Flowing
 pub mod Outcomes
+pub mod Opened
 pub mod Stepping

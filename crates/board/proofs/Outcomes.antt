@@ -24,7 +24,7 @@ use Rattle.rules.specs.Lent.{workAfter}
 use Rattle.rules.specs.Judging.{total3bv, leftToSolve}
 use Rattle.rules.specs.Clicks.{Desk, Play, desk, done}
 use Rattle.rules.specs.Step.{eventRefusal, plainOf, refusalAt, playAt, stepAt, stepBy, stepOn, pointerOf}
-use Rattle.rules.specs.Calls.{Outcome, outcome, SetUp, Totalled, Asked, Numbered, cellsIn, answers, refuses, checks, setUp, refused, refusedAt, accepted, played, setupBy, setupRefusal, setupOf, resetOf, totalRefusal, totalOf, numberingOf, positionCheck, lentRefusal, flowRefusal, stepOf, flowOf, gameStateOf, bbbvSolvedOf, leftToSolveOf}
+use Rattle.rules.specs.Calls.{Outcome, outcome, SetUp, Totalled, Asked, Numbered, cellsIn, answers, refuses, checks, setUp, refused, refusedAt, accepted, openedIn, played, setupBy, setupRefusal, setupOf, resetOf, totalRefusal, totalOf, numberingOf, positionCheck, lentRefusal, flowRefusal, stepOf, flowOf, gameStateOf, bbbvSolvedOf, leftToSolveOf}
 use Rattle.cells.proofs.Words.{one}
 use Rattle.boards.proofs.Faults.{place-none}
 use Rattle.game.proofs.Answers.{play-answers, refusal-refuses, refused-from}
@@ -172,15 +172,15 @@ step-whole B code r c d work = at (eqb (lentRefusal B d work) 0)
     o = stepOn B code r c d
 
     out : Bool → Outcome
-    out b = pick b (refused (o .answer) (o .desk) work) (accepted (o .answer) (o .desk) work)
+    out b = pick b (refused (o .answer) (o .desk) work) (accepted (o .answer) (openedIn (d .shown) (o .desk .shown)) (o .desk) work)
 
     by : (b : Bool) → leb 20 (o .answer) ≡ b → 20 ≤ out b .answer .number → out b ≡ refusedAt B (out b .answer .number) d work
     by true e h =
         ap (λ (e : Desk). refused (o .answer) e work) (event-back B code r c d (leb-true _ _ e)) ∙ far B (o .answer) d work (event-far B code r c d (leb-true _ _ e))
     by false e h = absurd (false≢true (sym e ∙ le-leb _ _ h))
 
-    at : (b : Bool) → 20 ≤ pick b (played o work) (refusedAt B (lentRefusal B d work) d work) .answer .number
-        → pick b (played o work) (refusedAt B (lentRefusal B d work) d work) ≡ refusedAt B (pick b (played o work) (refusedAt B (lentRefusal B d work) d work) .answer .number) d work
+    at : (b : Bool) → 20 ≤ pick b (played (d .shown) o work) (refusedAt B (lentRefusal B d work) d work) .answer .number
+        → pick b (played (d .shown) o work) (refusedAt B (lentRefusal B d work) d work) ≡ refusedAt B (pick b (played (d .shown) o work) (refusedAt B (lentRefusal B d work) d work) .answer .number) d work
     at true h = by (leb 20 (o .answer)) refl h
     at false h = refl
 

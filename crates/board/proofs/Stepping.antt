@@ -15,7 +15,8 @@ use Rattle.rules.specs.Words.{unless}
 use Rattle.rules.specs.Lent.{workRoom, workAfter}
 use Rattle.rules.specs.Clicks.{Desk, Play, desk, done}
 use Rattle.rules.specs.Step.{eventRefusal, stepOn}
-use Rattle.rules.specs.Calls.{answers, refuses, outcome, cellsIn, lentRefusal, stepOf}
+use Rattle.rules.specs.Calls.{answers, refuses, outcome, cellsIn, openedIn, lentRefusal, stepOf}
+use Rattle.cells.specs.Contracts.{Ticked}
 use Rattle.keep.specs.Kept.{LawfulAt}
 use Rattle.keep.proofs.Lawful.{lent-lawful}
 use Rattle.keep.proofs.Step.{step-follows}
@@ -38,11 +39,13 @@ module _ (B : List ℤ) (code r c : ℕ) (p : Position) (shown bits work : List 
   step-heard k a z s l h = rw (← e, eq-eqb n 0 z, ← s, le-leb 20 k l, h)
 
   -- played
-  pub step-done : (m : ℕ) (q : Position) (a : Answer) (shown′ bits′ work′ : List ℕ) → n ≡ 0 → done m (desk q shown′ bits′) ≡ stepOn B code r c (desk p shown bits) → m < 20
-      → work′ ≡ workAfter (cellsIn (p .settings)) work → q .settings ≡ p .settings → a ≡ answers m q 0
+  pub step-done : (m v : ℕ) (q : Position) (a : Answer) (shown′ bits′ work′ : List ℕ) → n ≡ 0 → done m (desk q shown′ bits′) ≡ stepOn B code r c (desk p shown bits) → m < 20
+      → work′ ≡ workAfter (cellsIn (p .settings)) work → q .settings ≡ p .settings → Ticked 0 shown v shown′ → a ≡ answers m q v
       → outcome a shown′ bits′ work′ ≡ stepOf B code r c (desk p shown bits) work
   unfolding stepOf
-  step-done m q a shown′ bits′ work′ z s l w g h = rw (← e, eq-eqb n 0 z, ← s, lt-leb 20 m l, h, w, g)
+  step-done m v q a shown′ bits′ work′ z s l w g t h =
+      let k : v ≡ openedIn shown shown′ = omega (arith, t .counted) in
+      rw (← e, eq-eqb n 0 z, ← s, lt-leb 20 m l, h, w, g, k)
 
 pub settings-kept : (B : List ℤ) (code r c : ℕ) (p q : Position) (shown bits shown′ bits′ : List ℕ) (m : ℕ) → LawfulAt B (desk p shown bits)
     → done m (desk q shown′ bits′) ≡ stepOn B code r c (desk p shown bits) → q .settings ≡ p .settings

@@ -65,7 +65,7 @@ pub fn step(
     let q = p.with_middle(h.middle);
     let o = game::play_event(q, e, mines, &mut *shown, &mut *bits, &mut *work);
     let z = o.position;
-    calls::answer(o.answer, z, 0)
+    calls::answer(o.answer, z, o.opened)
 }
 
 // What the first event is refused with, or 0: a row that is refused there has touched nothing.

@@ -82,6 +82,7 @@ fn press_right(
     let position = marking::flag(down, mines, shown, bits, cell);
     Brief::Done(Played {
         answer: 1,
+        opened: 0,
         position,
     })
 }
@@ -167,6 +168,7 @@ fn on_cell(
     if code == 4 {
         return Brief::Done(Played {
             answer: 0,
+            opened: 0,
             position: p,
         });
     }

@@ -31,6 +31,7 @@ pub fn left_at(p: Position, x: Pointer, mines: &[i8], shown: &mut [u8], work: &m
             let q = clicks::add_left(p);
             Played {
                 answer: 0,
+                opened: 0,
                 position: q,
             }
         }
@@ -56,6 +57,7 @@ pub fn chord_at(
         }
         Pointer::Off => Played {
             answer: 0,
+            opened: 0,
             position: p,
         },
     }
@@ -82,6 +84,7 @@ pub fn right_at(
             let q = marking::add_right(p);
             Played {
                 answer: 0,
+                opened: 0,
                 position: q,
             }
         }
@@ -115,24 +118,27 @@ fn chord_from(
     }
     Played {
         answer: 0,
+        opened: 0,
         position: p,
     }
 }
 
 pub fn play_lc(p: Position, x: Pointer) -> Played
     requires { ⌜ p .counts .left ≤ 70000 ⌝ }
-    ensures { λ r. ⌜ ((shown bits : List ℕ) → done (r .answer) (desk (r .position) shown bits) ≡ playLc x (desk p shown bits)) ⌝ }
+    ensures { λ r. ⌜ ((shown bits : List ℕ) → done (r .answer) (desk (r .position) shown bits) ≡ playLc x (desk p shown bits)) × (r .opened ≡ 0) ⌝ }
 {
     if mouse::on_cell(x) {
         let q = mouse::moved(0, p);
         return Played {
             answer: 0,
+            opened: 0,
             position: q,
         };
     }
     let q = clicks::add_left(p);
     Played {
         answer: 0,
+        opened: 0,
         position: q,
     }
 }
@@ -180,6 +186,7 @@ pub fn play_rr(
             let q = mouse::moved(3, p);
             return Played {
                 answer: 0,
+                opened: 0,
                 position: q,
             };
         }
@@ -191,20 +198,22 @@ pub fn play_rr(
 // ---- an event that changes the position alone ------------------------------------------------------------------------------------------
 
 pub fn answered(p: Position) -> Played
-    ensures { λ r. ⌜ r ≡ record { answer = 0; position = p } ⌝ }
+    ensures { λ r. ⌜ r ≡ record { answer = 0; opened = 0; position = p } ⌝ }
 {
     Played {
         answer: 0,
+        opened: 0,
         position: p,
     }
 }
 
 pub fn middled(p: Position, b: bool) -> Played
-    ensures { λ r. ⌜ r ≡ record { answer = 0; position = withMiddle p b } ⌝ }
+    ensures { λ r. ⌜ r ≡ record { answer = 0; opened = 0; position = withMiddle p b } ⌝ }
 {
     let q = p.with_middle(b);
     Played {
         answer: 0,
+        opened: 0,
         position: q,
     }
 }

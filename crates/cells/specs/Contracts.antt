@@ -1,5 +1,5 @@
 -- What a playing function may rely on, and what it leaves: one chain of records from the opening up to a row of events.
--- A count that grows is answered in `Room`, a number beside the answer in `play`.
+-- A count that grows is answered in `Room`, a number beside the answer in `Plays`.
 use mathlib.Core.Path.{_≡_}
 use mathlib.Core.List.{List}
 use Prim.Native.Nat.{ℕ, _+_, _*_, _≤_}
@@ -12,7 +12,7 @@ use Rattle.rules.specs.declared.Position.{Position}
 use Rattle.rules.specs.declared.Played.{Played}
 use Rattle.rules.specs.Lent.{bitBytes, workRoom}
 use Rattle.rules.specs.Clicks.{Desk, Play, desk, done}
-use Rattle.rules.specs.Lawful.{countShown, shows}
+use Rattle.rules.specs.Lawful.{countShown, shows, isOpen}
 use Rattle.cells.specs.Ground.{Fitting, Zeros}
 
 -- ---- what it may rely on ---------------------------------------------------------------------------------------------------------------
@@ -25,6 +25,14 @@ pub record Laid (B : List ℤ) (shown work : List ℕ) (R C : ℕ) : Type 0 wher
 -- the cells that show 10
 abbrev pub closedIn : List ℕ → ℕ
 closedIn shown = countShown (shows 10) shown
+
+-- the cells that show 0 to 8
+abbrev pub openIn : List ℕ → ℕ
+openIn shown = countShown isOpen shown
+
+-- a count of opened cells went on from n as the open cells did
+pub record Ticked (n : ℕ) (shown : List ℕ) (n′ : ℕ) (shown′ : List ℕ) : Type 0 where
+  pub counted : n′ + openIn shown ≡ n + openIn shown′
 
 -- room for what chords and passes add, against the cells still closed: a flag or a chord leaves one fewer at least, and a chord solves at most 16
 pub record PassRoom (c : Counts) (k : Secrets) (shown : List ℕ) : Type 0 where
@@ -83,9 +91,11 @@ pub record Leaves {A : Type 0} (got due : A) (work work′ : List ℕ) : Type 0 
 abbrev pub play : Played → List ℕ → List ℕ → Play
 play r shown bits = done (r .answer) (desk (r .position) shown bits)
 
--- an action at a desk
-abbrev pub Plays : (Desk → Play) → Position → List ℕ → List ℕ → List ℕ → Played → List ℕ → List ℕ → List ℕ → Type 0
-Plays f p shown bits work r shown′ bits′ work′ = Leaves (play r shown′ bits′) (f (desk p shown bits)) work work′
+-- an action at a desk: what it leaves, the work as it was lent, and the cells that it opened counted
+pub record Plays (f : Desk → Play) (p : Position) (shown bits work : List ℕ) (r : Played) (shown′ bits′ work′ : List ℕ) : Type 0 where
+  pub outcome : play r shown′ bits′ ≡ f (desk p shown bits)
+  pub same : work′ ≡ work
+  pub opened : Ticked 0 shown (r .opened) shown′
 
 -- an action that leaves the bits alone, whatever they are
 abbrev pub Acts : (Desk → Play) → Position → List ℕ → List ℕ → Played → List ℕ → List ℕ → Type 0

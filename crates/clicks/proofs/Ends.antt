@@ -15,7 +15,7 @@ use Rattle.rules.specs.States.{withGame}
 use Rattle.rules.specs.Board.{faceAt}
 use Rattle.rules.specs.Opening.{Opened, refreshed, run, turns, shownAfter, stackAfter, hitAfter}
 use Rattle.rules.specs.Clicks.{Desk, Play, desk, done, showing, isWon, ended}
-use Rattle.cells.specs.Contracts.{play, Acts}
+use Rattle.cells.specs.Contracts.{Ticked, play, Acts}
 use Rattle.opening.specs.Parts.{opened}
 use Rattle.clicks.specs.Parts.{endSafe, opensWith}
 
@@ -50,16 +50,17 @@ module _ (B : List ℤ) (n : ℕ) (d : Desk) (o : Opened) where
       go false false e w = rw (ended-open e w) (record { answer = inr refl; board = refl; bits = refl; settings = refl; counts = refl; secrets = refl })
 
 -- no mine is hit, and the win is known
-pub ended-safe : (B : List ℤ) (n : ℕ) (p : Position) (past shown bits : List ℕ) {hit : Bool} → hit ≡ false → (won : Bool) → won ≡ isWon B shown → (r : Played) → r ≡ endSafe n won p
+pub ended-safe : (B : List ℤ) (n : ℕ) (p : Position) (past shown bits : List ℕ) {hit : Bool} → hit ≡ false → (won : Bool) → won ≡ isWon B shown → (r : Played) {k : ℕ} → r ≡ endSafe n k won p
     → play r shown bits ≡ ended B n (desk p past bits) (opened shown hit)
 ended-safe B n p past shown bits e true w r s = ap (λ (x : Played). play x shown bits) s ∙ sym (ended-won B n _ _ e (sym w))
 ended-safe B n p past shown bits e false w r s = ap (λ (x : Played). play x shown bits) s ∙ sym (ended-open B n _ _ e (sym w))
 
 -- the cells opened, and the ending
-pub opened-ends : (B : List ℤ) (n : ℕ) (given : List ℕ) (p : Position) (shown work : List ℕ) (r : Played) (shown′ work′ : List ℕ) (hit : Bool)
+pub opened-ends : (B : List ℤ) (n : ℕ) (given : List ℕ) (p : Position) (shown work : List ℕ) (r : Played) (shown′ work′ : List ℕ) (hit : Bool) {k : ℕ}
     → opened shown′ hit ≡ refreshed B (p .settings .rows) (p .settings .columns) given shown
-    → ((past bits : List ℕ) → play r shown′ bits ≡ ended B n (desk p past bits) (opened shown′ hit)) → work′ ≡ work → Acts (opensWith B n given) p shown work r shown′ work′
-opened-ends B n given p shown work r shown′ work′ hit o e w = λ bits. record { outcome = e shown bits ∙ ap (ended B n (desk p shown bits)) o; same = w }
+    → ((past bits : List ℕ) → play r shown′ bits ≡ ended B n (desk p past bits) (opened shown′ hit)) → work′ ≡ work → Ticked 0 shown k shown′ → r .opened ≡ k
+    → Acts (opensWith B n given) p shown work r shown′ work′
+opened-ends B n given p shown work r shown′ work′ hit o e w t k = λ bits. record { outcome = e shown bits ∙ ap (ended B n (desk p shown bits)) o; same = w; opened = rw k t }
 
 -- a number that is opened is shown, and opens nothing more
 module _ (B : List ℤ) (R C i : ℕ) (shown : List ℕ) (ten : getD shown i 0 ≡ 10) (nonzero : faceAt B i ≡ 0 → ⊥) (mine : faceAt B i ≡ 15 → ⊥) where

@@ -18,9 +18,9 @@ use Rattle.rules.specs.Clicks.{Desk, Play, desk, rowsOf, columnsOf, ended, left
 use Rattle.cells.specs.Ground.{Mined}
 use Rattle.cells.specs.Contracts.{Leaves}
 
--- the position where no mine was hit, with the answer given
-abbrev pub endSafe : ℕ → Bool → Position → Played
-endSafe n won p = record { answer = n; position = pick won (withGame p Win) p }
+-- the position where no mine was hit, with the answer given and what was opened
+abbrev pub endSafe : ℕ → ℕ → Bool → Position → Played
+endSafe n opened won p = record { answer = n; opened = opened; position = pick won (withGame p Win) p }
 
 -- a closed number of the board, and whether it is lone
 pub record NumberAt (B : List ℤ) (s : Settings) (shown : List ℕ) (i face : ℕ) (lone : Bool) : Type 0 where

@@ -9,9 +9,10 @@ ghost use Rattle.rules.specs.States.{withLeft, withLce, withSolvedLeft};
 ghost use Rattle.rules.specs.Grid.{cellOf};
 ghost use Rattle.rules.specs.Clicks.{desk, ended, leftOpens, leftClick};
 ghost use Rattle.cells.specs.Ground.{Valued, Below};
-ghost use Rattle.cells.specs.Contracts.{LaidAt, RoomAt, play, Acts};
+ghost use Rattle.cells.specs.Contracts.{Ticked, LaidAt, RoomAt, play, Acts};
 ghost use Rattle.opening.specs.Parts.{opened};
 ghost use Rattle.clicks.specs.Parts.{endSafe, NumberAt, SpreadsAt, Told, Adds, opensWith, leftAdds, Collected};
+use opening::Outcome;
 use rules::Cells;
 use rules::GameState;
 use rules::Played;
@@ -20,38 +21,41 @@ use rules::Position;
 // ---- opening ---------------------------------------------------------------------------------------------------------------------------
 
 // How an opening that hits no mine ends: Win where no safe cell is left; the answer is the one given.
-fn end_safe(p: Position, won: bool, n: u16) -> Played
-    ensures { λ r. ⌜ r ≡ endSafe n won p ⌝ }
+fn end_safe(p: Position, won: bool, n: u16, opened: u32) -> Played
+    ensures { λ r. ⌜ r ≡ endSafe n opened won p ⌝ }
 {
     if won {
         let q = p.with_game(GameState::Win);
         return Played {
             answer: n,
+            opened,
             position: q,
         };
     }
     Played {
         answer: n,
+        opened,
         position: p,
     }
 }
 
-// How an opening ends: a mine is Loss and 4; else the win is tested, and the answer is the one given.
-fn end_opening(p: Position, mines: &[i8], shown: &[u8], near: usize, hit: bool, n: u16) -> Played
+// How an opening ends: a mine is Loss and 4; else the win is tested, and the answer is the one given. What it opened is counted either way.
+fn end_opening(p: Position, mines: &[i8], shown: &[u8], near: usize, o: Outcome, n: u16) -> Played
     requires { ⌜ length (now mines) ≡ length (now shown) ⌝ }
     requires { ⌜ Valued (now mines) ⌝ }
     requires { ⌜ near ≤ length (now shown) ⌝ }
-    ensures { λ r. ⌜ ((past bits : List ℕ) → play r (now (shown .entry)) bits ≡ ended (now (mines .entry)) n (desk p past bits) (opened (now (shown .entry)) hit)) ⌝ }
+    ensures { λ r. ⌜ ((past bits : List ℕ) → play r (now (shown .entry)) bits ≡ ended (now (mines .entry)) n (desk p past bits) (opened (now (shown .entry)) (o .hit))) × (r .opened ≡ o .opened) ⌝ }
 {
-    if hit {
+    if o.hit {
         let q = p.with_game(GameState::Loss);
         return Played {
             answer: 4,
+            opened: o.opened,
             position: q,
         };
     }
     let won = winning::is_win_near(mines, shown, near);
-    end_safe(p, won, n)
+    end_safe(p, won, n, o.opened)
 }
 
 // The first of the cells, or 0 where it is no place of the board.
@@ -82,9 +86,9 @@ pub fn open_cells(
 {
     let rows = p.settings.rows as usize;
     let columns = p.settings.columns as usize;
-    let hit = opening::refresh_board(mines, shown, work, rows, columns, cells);
+    let o = opening::refresh_board(mines, shown, work, rows, columns, cells);
     let near = first_of(cells, shown.len());
-    end_opening(p, mines, shown, near, hit, n)
+    end_opening(p, mines, shown, near, o, n)
 }
 
 // ---- left ------------------------------------------------------------------------------------------------------------------------------
@@ -122,13 +126,13 @@ pub fn left_number(
 ) -> Played
     requires { ⌜ NumberAt (now mines) (p .settings) (now shown) cell face lone ⌝ }
     requires { ⌜ RoomAt p (now shown) ⌝ }
-    ensures { λ r. ⌜ ((bits : List ℕ) → play r (now (shown .exit)) bits ≡ leftClick (now (mines .entry)) cell (desk p (now (shown .entry)) bits)) ⌝ }
+    ensures { λ r. ⌜ ((bits : List ℕ) → play r (now (shown .exit)) bits ≡ leftClick (now (mines .entry)) cell (desk p (now (shown .entry)) bits)) × Ticked 0 (now (shown .entry)) (r .opened) (now (shown .exit)) ⌝ }
 {
     shown[cell] = face;
     let won = winning::is_win_near(mines, shown, cell);
     let q = add_left(p);
     let z = left_counts(q, lone);
-    end_safe(z, won, 2)
+    end_safe(z, won, 2, 1)
 }
 
 // A mine counts nothing; the opening of a 0 is judged before it opens.
@@ -219,6 +223,7 @@ pub fn left_click(
         let q = add_left(p);
         return Played {
             answer: 0,
+            opened: 0,
             position: q,
         };
     }

@@ -22,7 +22,8 @@ use Rattle.cells.specs.Ground.{Valued, Below, Zeros}
 use Rattle.cells.proofs.Words.{stack-below}
 use Rattle.bits.proofs.Bits.{bit-length}
 use Rattle.opening.proofs.Cost.{closed-set, closed-pos}
-use Rattle.cells.specs.Contracts.{closedIn}
+use Rattle.opening.proofs.Ticking.{ticked-flag}
+use Rattle.cells.specs.Contracts.{closedIn, openIn}
 use Rattle.flagging.specs.Listing.{Flaggable, Flags}
 
 -- a flag can be counted where a cell is closed
@@ -54,17 +55,18 @@ module _ (B : List ℤ) where
   flag-is cell p q shown bits bits′ e b h =
       ap₂ (λ (x : Position) (y : List ℕ). desk x (set shown cell 11) y) h b ∙ sym (flag-yes cell (desk p shown bits) (eq-eqb _ _ e))
 
-  -- ---- THE LAW of a flag: flags and closed cells together stay as many, the lists as long, and no other count changes ------------------------
+  -- ---- THE LAW of a flag: flags and closed cells together stay as many, no cell opens, the lists stay as long, and no other count changes -----
 
   pub record Even (d d′ : Desk) : Type 0 where
     pub sum : d′ .position .counts .flag + closedIn (d′ .shown) ≡ d .position .counts .flag + closedIn (d .shown)
     pub few : closedIn (d′ .shown) ≤ closedIn (d .shown)
+    pub opens : openIn (d′ .shown) ≡ openIn (d .shown)
     pub board : length (d′ .shown) ≡ length (d .shown)
     pub bytes : length (d′ .bits) ≡ length (d .bits)
     pub only : d′ .position ≡ withFlag (d .position) (d′ .position .counts .flag)
 
   even-none : (d : Desk) → Even d d
-  even-none d = record { sum = refl; few = omega arith; board = refl; bytes = refl; only = refl }
+  even-none d = record { sum = refl; few = omega arith; opens = refl; board = refl; bytes = refl; only = refl }
 
   even-one : (cell : ℕ) (d : Desk) → Even d (flagOne B cell d)
   even-one cell d = go (closedAt (d .shown) cell) refl
@@ -72,8 +74,16 @@ module _ (B : List ℤ) where
       go : (b : Bool) → closedAt (d .shown) cell ≡ b → Even d (flagOne B cell d)
       go true e =
           let l = closed-set (d .shown) cell 11 e (λ h. omega arith) in
+          let t = ticked-flag 0 (d .shown) cell e .counted in
           rw (flag-yes cell d e)
-          (record { sum = omega arith; few = omega arith; board = length-set (d .shown) cell 11; bytes = mark-length cell (d .bits); only = refl })
+          (record {
+            sum = omega arith;
+            few = omega arith;
+            opens = omega arith;
+            board = length-set (d .shown) cell 11;
+            bytes = mark-length cell (d .bits);
+            only = refl;
+          })
       go false e = rw (flag-no cell d e) (even-none d)
 
   even-on : (d d′ d″ : Desk) → Even d d′ → Even d′ d″ → Even d d″
@@ -81,6 +91,7 @@ module _ (B : List ℤ) where
       record {
         sum = b .sum ∙ a .sum;
         few = omega (arith, a .few, b .few);
+        opens = b .opens ∙ a .opens;
         board = b .board ∙ a .board;
         bytes = b .bytes ∙ a .bytes;
         only = b .only ∙ ap (λ (p : Position). withFlag p (d″ .position .counts .flag)) (a .only);

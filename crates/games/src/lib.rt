@@ -40,6 +40,7 @@ fn play_events(
     let mut place = at;
     let mut o = Played {
         answer: 0,
+        opened: 0,
         position: p,
     };
     while k < events.len() {

@@ -23,9 +23,11 @@ pub fn right_click(
 {
     if shown[cell] == 10 {
         let f = marking::flag(p, mines, shown, bits, cell);
-        let position = passes::passes_after_flag(f, mines, shown, bits, work);
+        let r = passes::passes_after_flag(f, mines, shown, bits, work);
+        let position = r.position;
         return Played {
             answer: 1,
+            opened: r.opened,
             position,
         };
     }
@@ -45,6 +47,7 @@ fn add_dce(o: Played) -> Played
     let position = p.with_dce(n);
     Played {
         answer: o.answer,
+        opened: o.opened,
         position,
     }
 }
@@ -66,9 +69,12 @@ pub fn chording_click(
     let q = p.with_double(n);
     let o = chords::perform_chord(q, mines, shown, work, cell);
     let c = add_dce(o);
-    let position = passes::passes_after_chord(c.position, mines, shown, bits, work);
+    let r = passes::passes_after_chord(c.position, mines, shown, bits, work);
+    let position = r.position;
+    let opened = c.opened + r.opened;
     Played {
         answer: c.answer,
+        opened,
         position,
     }
 }

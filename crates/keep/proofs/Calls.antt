@@ -16,7 +16,7 @@ use Rattle.rules.specs.Board.{faceAt}
 use Rattle.rules.specs.Clicks.{Desk, desk, done, on}
 use Rattle.rules.specs.Step.{stepOn}
 use Rattle.rules.specs.Lawful.{cellLawful}
-use Rattle.rules.specs.Calls.{leftBy, setBy, Outcome, SetUp, boardsFit, freshDesk, setupBy, setupRefusal, resetOf, answers, refuses, setUp, positionCheck, lentRefusal, refused, refusedAt, accepted, played, stepOf, plays, lastPlay, flowed, flowRefusal, flowOf, gameStateOf}
+use Rattle.rules.specs.Calls.{leftBy, setBy, Outcome, SetUp, boardsFit, freshDesk, setupBy, setupRefusal, resetOf, answers, refuses, setUp, positionCheck, lentRefusal, refused, refusedAt, accepted, openedIn, played, stepOf, plays, lastPlay, flowed, flowRefusal, flowOf, gameStateOf}
 use Rattle.cells.proofs.Words.{pick-both}
 use Rattle.keep.specs.Kept.{LawfulAt, Follows}
 use Rattle.keep.proofs.Lawful.{settings-accepted, accepted-ground, check-lawful, settings-check, check-passes}
@@ -91,9 +91,9 @@ reset-keeps B d e =
 pub step-call-keeps : (B : List ℤ) (code r c : ℕ) (d : Desk) (work : List ℕ) → Accepts B d → Accepts B (leftBy (stepOf B code r c d work))
 unfolding stepOf
 step-call-keeps B code r c d work e =
-    pick-both (λ (o : Outcome). Accepts B (leftBy o)) (eqb (lentRefusal B d work) 0) (played (stepOn B code r c d) work) (refusedAt B (lentRefusal B d work) d work)
+    pick-both (λ (o : Outcome). Accepts B (leftBy o)) (eqb (lentRefusal B d work) 0) (played (d .shown) (stepOn B code r c d) work) (refusedAt B (lentRefusal B d work) d work)
     (λ _. pick-both (λ (o : Outcome). Accepts B (leftBy o)) (leb 20 (stepOn B code r c d .answer))
-    (refused (stepOn B code r c d .answer) (stepOn B code r c d .desk) work) (accepted (stepOn B code r c d .answer) (stepOn B code r c d .desk) work)
+    (refused (stepOn B code r c d .answer) (stepOn B code r c d .desk) work) (accepted (stepOn B code r c d .answer) (openedIn (d .shown) (stepOn B code r c d .desk .shown)) (stepOn B code r c d .desk) work)
     (λ _. step-check B code r c d e) (λ _. step-check B code r c d e))
     (λ _. e)
 

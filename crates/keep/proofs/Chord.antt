@@ -12,23 +12,24 @@ use lib.IntN.{ℤ}
 use lib.ListN.{length, getD, List·getD-eq-default}
 use Rattle.rules.specs.declared.Settings.{Settings}
 use Rattle.rules.specs.declared.GameState.the-variants.{Playing, Win, Loss}
-use Rattle.rules.specs.Words.{pick, bit, count}
+use Rattle.rules.specs.Words.{pick, count}
 use Rattle.rules.specs.States.{withGame}
 use Rattle.rules.specs.Grid.{neighbour, around}
 use Rattle.rules.specs.Opening.{closedAt, Opened, refreshed}
 use Rattle.rules.specs.Clicks.{Desk, desk, done, showing, rowsOf, columnsOf, flagAt, chordIsUseful, closedAround, chordCounts, chordOpens, performChord, ended, isWon}
 use Rattle.rules.specs.Lawful.{countShown, isOpen}
 use Rattle.cells.specs.Ground.{Valued}
-use Rattle.cells.proofs.Words.{and-left, and-right, and-both, count-mono, count-zero}
+use Rattle.cells.proofs.Words.{and-left, and-right, and-both, count-mono}
 use Rattle.judging.specs.Joining.{among, safeAt}
 use Rattle.judging.proofs.Judging.{judged-lones-safe}
-use Rattle.opening.proofs.Lists.{count-sum, neighbour-pushed}
-use Rattle.opening.proofs.Opening.{opening-length, opening-changes, opening-opens-given}
+use Rattle.opening.proofs.Lists.{neighbour-pushed}
+use Rattle.opening.proofs.Opening.{opening-opens-given}
+use Rattle.opening.proofs.Ticking.{opening-newly}
 use Rattle.cells.proofs.Grid.{pushed-height}
 use Rattle.keep.specs.Kept.{Live}
 use Rattle.keep.proofs.Counting.{shown-none}
 use Rattle.keep.proofs.Moves.{sound-in}
-use Rattle.keep.proofs.Opened.{changed-open, hit-counted, opened-sound, ended-live}
+use Rattle.keep.proofs.Opened.{hit-counted, opened-sound, ended-live}
 use Rattle.keep.proofs.Left.{safe-open}
 use Rattle.keep.proofs.Around.{count-along, neighbours-apart, among-pushed}
 
@@ -66,21 +67,10 @@ module _ (B : List ℤ) (R C i : ℕ) (shown : List ℕ) (v : Valued B) (long : 
       ∙ safe-open B v (neighbour R C i k) m)
 
   newly-adds : countShown isOpen shown + count newly (R * C) ≤ countShown isOpen after
-  unfolding countShown
   newly-adds =
-      let s = count-sum (λ j. isOpen (getD shown j 0)) newly (λ j. isOpen (getD after j 0)) (λ j. false) (R * C)
-      (λ j _. both (isOpen (getD shown j 0)) (isOpen (getD after j 0)) (changed-open (opening-changes B R C (closedAround R C shown i) shown v j))) in
-      let z = count-zero (λ j. false) (R * C) (λ j _. refl) in
-      let a : count (λ j. isOpen (getD shown j 0)) (length shown) ≡ count (λ j. isOpen (getD shown j 0)) (R * C) = ap (count (λ j. isOpen (getD shown j 0))) long in
-      let b : count (λ j. isOpen (getD after j 0)) (length after) ≡ count (λ j. isOpen (getD after j 0)) (R * C) =
-      ap (count (λ j. isOpen (getD after j 0))) (opening-length B R C (closedAround R C shown i) shown ∙ long) in
+      let g = opening-newly B R C (closedAround R C shown i) shown v in
+      let l : count newly (length shown) ≡ count newly (R * C) = ap (count newly) long in
       omega arith
-    where
-      both : (x y : Bool) → (x ≡ true → y ≡ true) → bit x + bit (not x && y) ≡ bit y + bit false
-      both true true h = refl
-      both true false h = absurd (false≢true (h refl))
-      both false true h = refl
-      both false false h = refl
 
   pub chord-opens-more : countShown isOpen shown + among (safeAt B) (closedAround R C shown i) ≤ countShown isOpen after
   chord-opens-more =

@@ -21,10 +21,10 @@ use Rattle.cells.proofs.Words.{bit-le}
 use Rattle.opening.proofs.Cost.{face-range}
 use Rattle.opening.proofs.Lists.{count-less}
 use Rattle.opening.proofs.Cases.{closed-in}
-use Rattle.opening.proofs.Opening.{opening-length, opening-changes, opening-opens-given}
+use Rattle.opening.proofs.Opening.{changed-open, opening-length, opening-changes, opening-opens-given}
 use Rattle.keep.specs.Kept.{Sound, Live}
 use Rattle.keep.proofs.Moves.{sound-in, left-counts}
-use Rattle.keep.proofs.Opened.{changed-open, hit-counted, opens-more, opened-sound, ended-live}
+use Rattle.keep.proofs.Opened.{hit-counted, opens-more, opened-sound, ended-live}
 
 -- a safe face is open
 pub safe-open : (B : List ℤ) → Valued B → (i : ℕ) → mineAt B i ≡ false → isOpen (faceAt B i) ≡ true

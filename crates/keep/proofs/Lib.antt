@@ -14,3 +14,4 @@ pub mod Step
 pub mod Room
 pub mod Calls
 pub mod Able
+pub mod Opens

@@ -26,6 +26,7 @@ use Rattle.opening.specs.Changed.{Changed, kept, opened, wrong}
 use Rattle.opening.proofs.Cases.{shown-shut, hit-mine, hit-stays}
 use Rattle.opening.proofs.Cost.{face-range}
 use Rattle.opening.proofs.Opening.{changed-flags, after-other, opening-length, opening-changes, opening-hit-shows}
+use Rattle.opening.proofs.Ticking.{opening-newly}
 use Rattle.keep.specs.Kept.{Bounded, Sound, Phase, Live}
 use Rattle.keep.proofs.Counting.{shown-some, shown-mono, shown-same}
 
@@ -126,11 +127,6 @@ module _ {B : List ℤ} {hit : Bool} {i : ℕ} (r : (faceAt B i ≤ 8) ⊎ (face
   changed-cell q (wrong w m) s h = subst⁻¹ (λ (t : Bool). cellLawful q t (faceAt B i) 14 ≡ true) w (wrong-lawful q (faceAt B i) m)
 
 module _ {B : List ℤ} {hit : Bool} {i : ℕ} where
-  pub changed-open : {x y : ℕ} → Changed B hit i x y → isOpen x ≡ true → isOpen y ≡ true
-  changed-open kept h = h
-  changed-open opened h = absurd (false≢true h)
-  changed-open (wrong w m) h = absurd (false≢true h)
-
   changed-touched : {x y : ℕ} → Changed B hit i x y → isOpenOrHit x ≡ true → isOpenOrHit y ≡ true
   changed-touched kept h = h
   changed-touched opened h = absurd (false≢true h)
@@ -151,8 +147,7 @@ module _ (B : List ℤ) (R C : ℕ) (given shown : List ℕ) (v : Valued B) wher
       shown-some (shows 15) (refreshed B R C given shown .shown) (p .0) (rw (opening-length B R C given shown) (p .1 .0)) (eq-eqb _ _ (p .1 .1 .1))
 
   pub opens-more : countShown isOpen shown ≤ countShown isOpen (refreshed B R C given shown .shown)
-  opens-more =
-      shown-mono isOpen shown (refreshed B R C given shown .shown) (opening-length B R C given shown) (λ i _. changed-open (opening-changes B R C given shown v i))
+  opens-more = let g = opening-newly B R C given shown v in omega arith
 
 pub opened-sound : {n m : ℕ} {B : List ℤ} {s : Settings} {c c′ : Counts} {k k′ : Secrets} {l b : List ℕ} (given : List ℕ) → Sound n B false s c k l b
     → Bounded m c′ k′ → c′ .double + n ≤ c .double + m → c′ .flag ≡ c .flag

@@ -1,3 +1,4 @@
 pub mod Moves
+pub mod Sums
 pub mod Secret
 pub mod Played

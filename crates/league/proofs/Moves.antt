@@ -37,6 +37,7 @@ use Rattle.rules.specs.Calls.{
   refused,
   refusedAt,
   accepted,
+  openedIn,
   played,
   stepOf,
   plays,
@@ -121,10 +122,10 @@ module _ (t : Bool) (n : ℕ) (o : Outcome) (B : List ℤ) (d : Desk) (work : Li
 
 -- ---- step ----------------------------------------------------------------------------------------------------------------------------------
 
-played-play : (o : Play) (work : List ℕ) → playOf (played o work) ≡ o
-played-play o work = go (leb 20 (o .answer))
+played-play : (before : List ℕ) (o : Play) (work : List ℕ) → playOf (played before o work) ≡ o
+played-play before o work = go (leb 20 (o .answer))
   where
-    go : (b : Bool) → playOf (pick b (refused (o .answer) (o .desk) work) (accepted (o .answer) (o .desk) work)) ≡ o
+    go : (b : Bool) → playOf (pick b (refused (o .answer) (o .desk) work) (accepted (o .answer) (openedIn before (o .desk .shown)) (o .desk) work)) ≡ o
     go true = refl
     go false = refl
 
@@ -133,8 +134,9 @@ step-plays : (B : List ℤ) (code r c : ℕ) (d : Desk) (work : List ℕ) → po
 unfolding stepOf lentRefusal positionCheck
 step-plays B code r c d work e =
     let t = workFits (d .position .settings) work in
-    tested t (lentRefusal B d work) (played (stepOn B code r c d) work) B d work (more-to-fit (boardsFit (d .position .settings) B (d .shown) (d .bits)) t B d e)
-    ∙ ap (λ (o : Play). pick t o (done 21 d)) (played-play (stepOn B code r c d) work)
+    tested t (lentRefusal B d work) (played (d .shown) (stepOn B code r c d) work) B d work
+    (more-to-fit (boardsFit (d .position .settings) B (d .shown) (d .bits)) t B d e)
+    ∙ ap (λ (o : Play). pick t o (done 21 d)) (played-play (d .shown) (stepOn B code r c d) work)
 
 -- ---- step_flow -----------------------------------------------------------------------------------------------------------------------------
 
@@ -211,10 +213,11 @@ module _ (B : List ℤ) (d : Desk) (work : List ℕ) (o : Outcome) where
 
 -- ---- no place ------------------------------------------------------------------------------------------------------------------------------
 
-played-place : (o : Play) (work : List ℕ) → played o work .answer .place ≡ Nowhere
-played-place o work = go (leb 20 (o .answer))
+played-place : (before : List ℕ) (o : Play) (work : List ℕ) → played before o work .answer .place ≡ Nowhere
+played-place before o work = go (leb 20 (o .answer))
   where
-    go : (b : Bool) → pick b (refused (o .answer) (o .desk) work) (accepted (o .answer) (o .desk) work) .answer .place ≡ Nowhere
+    go : (b : Bool)
+        → pick b (refused (o .answer) (o .desk) work) (accepted (o .answer) (openedIn before (o .desk .shown)) (o .desk) work) .answer .place ≡ Nowhere
     go true = refl
     go false = refl
 
@@ -223,8 +226,8 @@ unfolding stepOf flowOf lentRefusal flowRefusal positionCheck whole
 placeless (step code r c) B d work o e h =
     let t = workFits (d .position .settings) work in
     ap (λ (x : Outcome). x .answer .place) h
-    ∙ tested-place t (lentRefusal B d work) (played (stepOn B code r c d) work) B d work
-    (more-to-fit (boardsFit (d .position .settings) B (d .shown) (d .bits)) t B d e) (played-place (stepOn B code r c d) work)
+    ∙ tested-place t (lentRefusal B d work) (played (d .shown) (stepOn B code r c d) work) B d work
+    (more-to-fit (boardsFit (d .position .settings) B (d .shown) (d .bits)) t B d e) (played-place (d .shown) (stepOn B code r c d) work)
 placeless (flow events) B d work o e h =
     let t = workFits (d .position .settings) work && whole events in
     ap (λ (x : Outcome). x .answer .place) h

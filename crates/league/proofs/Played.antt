@@ -1,29 +1,24 @@
--- Games of every row of calls exist, a game of steps is the demand's game, and a refused event leaves its desk as it was. Assumes nothing.
+-- Games of every row of calls exist, and a game of steps is the demand's game, and looks as it does. Assumes nothing.
 use mathlib.Core.Path.{_≡_, refl, ap, _∙_}
 use mathlib.Core.Bool.{Bool, true, false}
-use mathlib.Core.List.{List, [], _∷_}
-use Prim.Native.Nat.{ℕ, _≤_}
+use mathlib.Core.List.{List, [], _∷_, map}
+use Prim.Native.Nat.{ℕ}
 use native.Mathlib.Omega.{arith}
 use lib.ListN.{length, replicate, length-replicate}
 use lib.IntN.{ℤ}
-use lib.Dec.{eqb}
 use borrow.Author.Tests.{le-leb, lt-leb}
 use Rattle.rules.specs.declared.Settings.{Settings}
-use Rattle.rules.specs.declared.Pointer.{Pointer}
-use Rattle.rules.specs.declared.Decoded.{Decoded}
-use Rattle.rules.specs.declared.Decoded.the-variants.{At, Bad}
 use Rattle.rules.specs.Words.{pick}
 use Rattle.rules.specs.Lent.{workRoom}
-use Rattle.rules.specs.Clicks.{Desk, Play, done}
-use Rattle.rules.specs.Step.{pointerOf, refusalAt, playAt, stepAt, stepBy, stepOn}
+use Rattle.rules.specs.Clicks.{Desk, Play}
+use Rattle.rules.specs.Step.{stepOn}
 use Rattle.rules.specs.Calls.{leftBy, setBy, freshDesk, Outcome, workFits, setupOf, stepOf, flowOf, cellsIn}
-use Rattle.cells.proofs.Words.{pick-both}
-use Rattle.game.proofs.Answers.{play-answers}
-use Rattle.secrecy.specs.Demand.{playsOn}
+use Rattle.secrecy.specs.Demand.{seenOf, playsOn, game}
 use Rattle.secrecy.proofs.Rows.{rowOf}
-use Rattle.league.specs.Secret.{Function, step, flow, Call, CallIs, playOf, Row, none, next, Playable, stepsOf, StepsPlay, RefusedStays}
+use Rattle.league.specs.Secret.{Function, step, flow, Call, CallIs, playOf, Row, none, next, Playable, stepsOf, StepsPlay}
 use Rattle.league.proofs.Moves.{step-move}
-use Rattle.league.proofs.Secret.{moves, game-moves}
+use Rattle.league.proofs.Sums.{toldAll, steps-told}
+use Rattle.league.proofs.Secret.{moves, game-moves, game-told}
 
 -- ---- every row of calls can be made ------------------------------------------------------------------------------------------------------
 
@@ -40,13 +35,13 @@ call-made : (f : Function) (B : List ℤ) (d : Desk) (work : List ℕ) → (o : 
 call-made (step code row column) B d work = (stepOf B code row column d work, refl)
 call-made (flow events) B d work = (flowOf B events d work, refl)
 
-row-made : (B : List ℤ) (calls : List Call) (d : Desk) → (os : List Play) × Row B d calls os
+row-made : (B : List ℤ) (calls : List Call) (d : Desk) → (os : List Outcome) × Row B d calls os
 row-made B [] d = ([], none)
 row-made B (call ∷ calls) d =
     let work = lent (call .enough) (d .position .settings) in
     let made = call-made (call .function) B d work in
     let rest = row-made B calls (leftBy (made .0)) in
-    (playOf (made .0) ∷ rest .0, next work (made .0) (lent-fits (call .enough) (d .position .settings)) (made .1) (rest .1))
+    (made .0 ∷ rest .0, next work (made .0) (lent-fits (call .enough) (d .position .settings)) (made .1) (rest .1))
 
 pub playable : Playable
 playable s calls B shown bits e =
@@ -77,21 +72,6 @@ steps-row B (code ∷ r ∷ c ∷ es) d =
     ap (λ (x : Play). x ∷ rowOf B (moves (stepsOf es)) (x .desk)) (step-move code r c B d) ∙ ap (λ (l : List Play). o ∷ l) (steps-row B es (o .desk))
 
 pub steps-play : StepsPlay
-steps-play s events B os g = game-moves g ∙ steps-row B events (freshDesk s)
-
--- ---- a refused event ---------------------------------------------------------------------------------------------------------------------
-
-stays-at : (B : List ℤ) (code : ℕ) (x : Pointer) (d : Desk) → 20 ≤ stepAt B code x d .answer → stepAt B code x d .desk ≡ d
-unfolding stepAt
-stays-at B code x d =
-    pick-both (λ (o : Play). 20 ≤ o .answer → o .desk ≡ d) (eqb (refusalAt code x d) 0) (playAt B code x d) (done (refusalAt code x d) d)
-    (λ _ h. let s = play-answers B code x d .small in absurd (omega arith)) (λ _ _. refl)
-
-stays-by : (B : List ℤ) (code : ℕ) (p : Decoded) (d : Desk) → 20 ≤ stepBy B code p d .answer → stepBy B code p d .desk ≡ d
-unfolding stepBy
-stays-by B code (At x) d h = stays-at B code x d h
-stays-by B code Bad d h = refl
-
-pub refused-stays : RefusedStays
-unfolding stepOn
-refused-stays B code r c d h = stays-by B code (pointerOf (d .position .settings) r c) d h
+steps-play s events B os g =
+    let same : map playOf os ≡ game s events B = game-moves g ∙ steps-row B events (freshDesk s) in
+    (same, game-told g ∙ (ap (λ (l : List Play). toldAll (stepsOf events) (seenOf s l)) same ∙ steps-told events (seenOf s (game s events B))))

@@ -2,7 +2,7 @@
 -- of board::step and board::step_flow continues, refused ones among them, look the same after every call.
 use mathlib.Core.Path.{_≡_}
 use mathlib.Core.Bool.{Bool, true}
-use mathlib.Core.List.{List, [], _∷_}
+use mathlib.Core.List.{List, [], _∷_, map}
 use Prim.Native.Nat.{ℕ, _≤_}
 use lib.IntN.{ℤ}
 use Rattle.rules.specs.declared.Settings.{Settings}
@@ -12,7 +12,7 @@ use Rattle.rules.specs.Clicks.{Desk, Play, desk, done}
 use Rattle.rules.specs.Step.{stepOn}
 use Rattle.rules.specs.Calls.{leftBy, Outcome, workFits, setupOf, positionCheck}
 use Rattle.rules.specs.Promises.{SetupIs, StepIs, StepFlowIs}
-use Rattle.secrecy.specs.Demand.{seenAll, game, endOf, Twins}
+use Rattle.secrecy.specs.Demand.{Seen, seenOf, game, endOf, Twins}
 
 -- what is called: step with one event, or step_flow with a row of events
 pub data Function : Type 0 where
@@ -35,17 +35,28 @@ CallIs (flow events) B d work o =
 abbrev pub playOf : Outcome → Play
 playOf o = done (o .answer .number) (leftBy o)
 
--- a row of calls, each at the desk that the one before left, accepted or refused, and with work of its own; the plays are what they left
-pub data Row (B : List ℤ) : Desk → List Call → List Play → Type 0 where
+-- what is seen of an outcome: how many cells were opened is its value
+abbrev pub seenBy : Outcome → Seen
+seenBy o = record {
+  answer = o .answer .number;
+  opened = o .answer .value;
+  shown = o .shown;
+  game = o .answer .position .game;
+  mouse = o .answer .position .mouse;
+  counts = o .answer .position .counts;
+}
+
+-- a row of calls, each at the desk that the one before left, accepted or refused, and with work of its own; os are their outcomes
+pub data Row (B : List ℤ) : Desk → List Call → List Outcome → Type 0 where
   none : {d : Desk} → Row B d [] []
-  next : {d : Desk} {call : Call} {calls : List Call} {os : List Play} (work : List ℕ) (o : Outcome)
+  next : {d : Desk} {call : Call} {calls : List Call} {os : List Outcome} (work : List ℕ) (o : Outcome)
       → workFits (d .position .settings) work ≡ call .enough
       → CallIs (call .function) B d work o
       → Row B (leftBy o) calls os
-      → Row B d (call ∷ calls) (playOf o ∷ os)
+      → Row B d (call ∷ calls) (o ∷ os)
 
--- setup accepted a board, whatever stood in the shown board and the bits that it was lent, and the calls were made; os is what they left
-pub record Game (s : Settings) (calls : List Call) (B : List ℤ) (os : List Play) : Type 0 where
+-- setup accepted a board, whatever stood in the shown board and the bits that it was lent, and the calls were made, with these outcomes
+pub record Game (s : Settings) (calls : List Call) (B : List ℤ) (os : List Outcome) : Type 0 where
   pub shown : List ℕ
   pub bits : List ℕ
   pub begun : Answer
@@ -55,12 +66,12 @@ pub record Game (s : Settings) (calls : List Call) (B : List ℤ) (os : List Pla
   pub accepted : begun .number ≡ 0
   pub goes : Row B (desk (begun .position) board bytes) calls os
 
--- two games of the same calls on twin boards, each with memory of its own, show the same answer or refusal, shown board, states and counts
+-- two games of the same calls on twin boards, each with memory of its own, show the same answer or refusal, value, shown board, states and counts
 -- after every call
 abbrev pub CodeDemand : Type 0
 CodeDemand =
-    (s : Settings) (calls : List Call) (A B : List ℤ) (os ps : List Play) → Game s calls A os → Game s calls B ps → Twins s (endOf s os) A B
-    → seenAll os ≡ seenAll ps
+    (s : Settings) (calls : List Call) (A B : List ℤ) (os ps : List Outcome) → Game s calls A os → Game s calls B ps → Twins s (endOf s (map playOf os)) A B
+    → map seenBy os ≡ map seenBy ps
 
 -- what an answer has beside them says nothing: a call of such a game has no place
 abbrev pub Placeless : Type 0
@@ -72,7 +83,7 @@ Placeless = (f : Function) (B : List ℤ) (d : Desk) (work : List ℕ) (o : Outc
 abbrev pub Playable : Type 0
 Playable =
     (s : Settings) (calls : List Call) (B : List ℤ) (shown bits : List ℕ) → setupOf s B shown bits .answer .number ≡ 0
-    → (os : List Play) × Game s calls B os
+    → (os : List Outcome) × Game s calls B os
 
 -- step called once an event, each time lent enough work
 unfoldable pub stepsOf : List ℕ → List Call
@@ -81,9 +92,11 @@ stepsOf (code ∷ []) = []
 stepsOf (code ∷ r ∷ []) = []
 stepsOf (code ∷ r ∷ c ∷ es) = record { function = step code r c; enough = true } ∷ stepsOf es
 
--- these calls leave the plays of the demand's own game
+-- these calls leave the plays of the demand's own game, and show what the demand speaks of: their values are its sums
 abbrev pub StepsPlay : Type 0
-StepsPlay = (s : Settings) (events : List ℕ) (B : List ℤ) (os : List Play) → Game s (stepsOf events) B os → os ≡ game s events B
+StepsPlay =
+    (s : Settings) (events : List ℕ) (B : List ℤ) (os : List Outcome) → Game s (stepsOf events) B os
+    → (map playOf os ≡ game s events B) × (map seenBy os ≡ seenOf s (game s events B))
 
 -- where a refused event leaves the desk as it was
 abbrev pub RefusedStays : Type 0

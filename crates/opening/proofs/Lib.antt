@@ -9,3 +9,4 @@ pub mod Quick
 pub mod Touching
 pub mod Going
 pub mod Refresh
+pub mod Ticking

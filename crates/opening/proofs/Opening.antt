@@ -14,7 +14,7 @@ use Rattle.rules.specs.Words.{pick, bit, count}
 use Rattle.rules.specs.Grid.{neighbour, around}
 use Rattle.rules.specs.Board.{faceAt, mineAt, numberOk, numbersOk}
 use Rattle.rules.specs.Opening.{closedAt, shownAfter, stackAfter, hitAfter, run, turns, Opened, wrongFlag, crossed, crossedIfHit, refreshed}
-use Rattle.rules.specs.Lawful.{countShown, shows, isOpenOrHit, isFlag}
+use Rattle.rules.specs.Lawful.{countShown, shows, isOpen, isOpenOrHit, isFlag}
 use Rattle.opening.specs.Changed.{In, Changed, kept, opened, wrong}
 use Rattle.opening.specs.Reach.{Opens}
 use Rattle.cells.specs.Ground.{Valued}
@@ -130,6 +130,12 @@ module _ {B : List ℤ} {hit : Bool} {i : ℕ} where
   changed-safe kept e a = refl
   changed-safe opened e a = absurd (a refl)
   changed-safe (wrong h m) e a = absurd (false≢true (sym e ∙ h))
+
+  -- what is open stays open
+  pub changed-open : {x y : ℕ} → Changed B hit i x y → isOpen x ≡ true → isOpen y ≡ true
+  changed-open kept e = e
+  changed-open opened e = absurd (false≢true e)
+  changed-open (wrong h m) e = absurd (false≢true e)
 
   -- what shows 10 showed 10
   pub changed-closed : {x y : ℕ} → Changed B hit i x y → y ≡ 10 → x ≡ 10

@@ -12,14 +12,21 @@ ghost use Rattle.rules.specs.Lent.{workRoom};
 ghost use Rattle.rules.specs.Opening.{closedAt, wrongFlag, crossed, refreshed};
 ghost use Rattle.rules.specs.Lawful.{countShown, shows};
 ghost use Rattle.cells.specs.Ground.{Valued, Fitting, Below};
-ghost use Rattle.cells.specs.Contracts.{Laid, Leaves};
+ghost use Rattle.cells.specs.Contracts.{openIn, Ticked, Laid, Leaves};
 ghost use Rattle.opening.specs.Quick.{front, touched, touchedAround, touchedAll};
 ghost use Rattle.opening.specs.Parts.{Spare, Roomy, Seated, Moved, Worked, opened};
 
-// Where the stack's top is, and whether a mine was hit.
+// Where the stack's top is, whether a mine was hit, and how many cells were opened.
 pub struct Turn {
     pub top: usize,
     pub hit: bool,
+    pub opened: u32,
+}
+
+// What an opening did: whether it hit a mine, and how many cells went from closed to showing 0 to 8.
+pub struct Outcome {
+    pub hit: bool,
+    pub opened: u32,
 }
 
 // The cell shows 10; off the board nothing does.
@@ -37,22 +44,34 @@ fn closed(shown: &[u8], q: usize) -> bool
 // Opens a cell if it is closed; a 0 goes on the stack.
 fn touch(mines: &[i8], shown: &mut [u8], work: &mut [u16], q: usize, past: Turn) -> Turn
     requires { ⌜ Roomy (now mines) (now shown) (now work) (past .top) ⌝ }
-    ensures { λ r. ⌜ Moved (touched (now (mines .entry)) q (front (stackOf (now (work .entry)) (past .top)) (now (shown .entry)) (past .hit))) (now (work .entry)) (past .top) (now (shown .exit)) (now (work .exit)) (r .top) (r .hit) ⌝ }
+    requires { ⌜ past .opened ≤ openIn (now shown) ⌝ }
+    ensures { λ r. ⌜ Moved (touched (now (mines .entry)) q (front (stackOf (now (work .entry)) (past .top)) (now (shown .entry)) (past .hit))) (now (work .entry)) (past .top) (now (shown .exit)) (now (work .exit)) (r .top) (r .hit) × Ticked (past .opened) (now (shown .entry)) (r .opened) (now (shown .exit)) ⌝ }
 {
     if closed(shown, q) {
         let v = cells::face_at(mines, q);
         shown[q] = v;
         let top = past.top;
+        if v == 15 {
+            return Turn {
+                top,
+                hit: true,
+                opened: past.opened,
+            };
+        }
+        let opened = past.opened + 1;
         if v == 0 {
             work[top] = q as u16;
             return Turn {
                 top: top + 1,
                 hit: past.hit,
+                opened,
             };
         }
-        if v == 15 {
-            return Turn { top, hit: true };
-        }
+        return Turn {
+            top,
+            hit: past.hit,
+            opened,
+        };
     }
     past
 }
@@ -70,7 +89,8 @@ fn touch_around(
 ) -> Turn
     requires { ⌜ Seated (now mines) rows columns (now shown) (now work) (past .top) ⌝ }
     requires { ⌜ (row < rows) × (column < columns) ⌝ }
-    ensures { λ r. ⌜ Moved (touchedAround (now (mines .entry)) rows columns (cellOf columns row column) 8 (front (stackOf (now (work .entry)) (past .top)) (now (shown .entry)) (past .hit))) (now (work .entry)) (past .top) (now (shown .exit)) (now (work .exit)) (r .top) (r .hit) ⌝ }
+    requires { ⌜ past .opened ≤ openIn (now shown) ⌝ }
+    ensures { λ r. ⌜ Moved (touchedAround (now (mines .entry)) rows columns (cellOf columns row column) 8 (front (stackOf (now (work .entry)) (past .top)) (now (shown .entry)) (past .hit))) (now (work .entry)) (past .top) (now (shown .exit)) (now (work .exit)) (r .top) (r .hit) × Ticked (past .opened) (now (shown .entry)) (r .opened) (now (shown .exit)) ⌝ }
 {
     let mut turn = past;
     for k in 0..8 {
@@ -92,7 +112,8 @@ fn spread_top(
     requires { ⌜ Seated (now mines) rows columns (now shown) (now work) (past .top) ⌝ }
     requires { ⌜ 0 < past .top ⌝ }
     requires { ⌜ getD (now work) (past .top - 1) 0 < rows * columns ⌝ }
-    ensures { λ r. ⌜ Moved (touchedAround (now (mines .entry)) rows columns (getD (now (work .entry)) (past .top - 1) 0) 8 (front (stackOf (set (now (work .entry)) (past .top - 1) 0) (past .top - 1)) (now (shown .entry)) (past .hit))) (set (now (work .entry)) (past .top - 1) 0) (past .top - 1) (now (shown .exit)) (now (work .exit)) (r .top) (r .hit) ⌝ }
+    requires { ⌜ past .opened ≤ openIn (now shown) ⌝ }
+    ensures { λ r. ⌜ Moved (touchedAround (now (mines .entry)) rows columns (getD (now (work .entry)) (past .top - 1) 0) 8 (front (stackOf (set (now (work .entry)) (past .top - 1) 0) (past .top - 1)) (now (shown .entry)) (past .hit))) (set (now (work .entry)) (past .top - 1) 0) (past .top - 1) (now (shown .exit)) (now (work .exit)) (r .top) (r .hit) × Ticked (past .opened) (now (shown .entry)) (r .opened) (now (shown .exit)) ⌝ }
 {
     let at = past.top - 1;
     let cell = work[at] as usize;
@@ -100,6 +121,7 @@ fn spread_top(
     let turn = Turn {
         top: at,
         hit: past.hit,
+        opened: past.opened,
     };
     touch_around(
         mines,
@@ -121,27 +143,35 @@ fn work_off(
     rows: usize,
     columns: usize,
     past: Turn,
-) -> bool
+) -> Outcome
     requires { ⌜ Fitting (now mines) (now shown) (now work) rows columns ⌝ }
     requires { ⌜ past .top + countShown (shows 10) (now shown) ≤ rows * columns ⌝ }
     requires { ⌜ Below (rows * columns) (stackOf (now work) (past .top)) ⌝ }
     requires { ⌜ Spare (past .top) (workRoom (rows * columns)) (now work) ⌝ }
-    ensures { λ r. ⌜ Worked (now (mines .entry)) rows columns (past .top) (now (shown .entry)) (now (work .entry)) (past .hit) (now (shown .exit)) (now (work .exit)) r ⌝ }
+    requires { ⌜ past .opened ≤ openIn (now shown) ⌝ }
+    ensures { λ r. ⌜ Worked (now (mines .entry)) rows columns (past .top) (now (shown .entry)) (now (work .entry)) (past .hit) (now (shown .exit)) (now (work .exit)) (r .hit) × Ticked (past .opened) (now (shown .entry)) (r .opened) (now (shown .exit)) ⌝ }
 {
     let mut turn = past;
     while 0 < turn.top {
         turn = spread_top(mines, shown, work, rows, columns, turn);
     }
-    turn.hit
+    Outcome {
+        hit: turn.hit,
+        opened: turn.opened,
+    }
 }
 
 // Touches the given cells.
 fn touch_given(mines: &[i8], shown: &mut [u8], work: &mut [u16], given: [u16; 8], n: usize) -> Turn
     requires { ⌜ Roomy (now mines) (now shown) (now work) 0 ⌝ }
     requires { ⌜ n ≤ 8 ⌝ }
-    ensures { λ r. ⌜ Moved (touchedAll (now (mines .entry)) (stackOf given n) (front [] (now (shown .entry)) false)) (now (work .entry)) 0 (now (shown .exit)) (now (work .exit)) (r .top) (r .hit) ⌝ }
+    ensures { λ r. ⌜ Moved (touchedAll (now (mines .entry)) (stackOf given n) (front [] (now (shown .entry)) false)) (now (work .entry)) 0 (now (shown .exit)) (now (work .exit)) (r .top) (r .hit) × Ticked 0 (now (shown .entry)) (r .opened) (now (shown .exit)) ⌝ }
 {
-    let mut turn = Turn { top: 0, hit: false };
+    let mut turn = Turn {
+        top: 0,
+        hit: false,
+        opened: 0,
+    };
     for i in 0..n {
         let q = given[i] as usize;
         turn = touch(mines, shown, work, q, turn);
@@ -177,7 +207,8 @@ fn cross_flags(mines: &[i8], shown: &mut [u8])
     }
 }
 
-// Opens the given cells, with all that a 0 opens; where a mine is hit, each flag on a safe cell becomes 14. The work comes back as it was.
+// Opens the given cells, with all that a 0 opens; where a mine is hit, each flag on a safe cell becomes 14. A hit mine is not counted as opened.
+// The work comes back as it was.
 pub fn refresh_board(
     mines: &[i8],
     shown: &mut [u8],
@@ -185,18 +216,18 @@ pub fn refresh_board(
     rows: usize,
     columns: usize,
     cells: rules::Cells,
-) -> bool
+) -> Outcome
     requires { ⌜ Laid (now mines) (now shown) (now work) rows columns ⌝ }
     requires { ⌜ cells .n ≤ 8 ⌝ }
     requires { ⌜ Below (rows * columns) (stackOf (cells .at) (cells .n)) ⌝ }
-    ensures { λ r. ⌜ Leaves (opened (now (shown .exit)) r) (refreshed (now (mines .entry)) rows columns (stackOf (cells .at) (cells .n)) (now (shown .entry))) (now (work .entry)) (now (work .exit)) ⌝ }
+    ensures { λ r. ⌜ Leaves (opened (now (shown .exit)) (r .hit)) (refreshed (now (mines .entry)) rows columns (stackOf (cells .at) (cells .n)) (now (shown .entry))) (now (work .entry)) (now (work .exit)) × Ticked 0 (now (shown .entry)) (r .opened) (now (shown .exit)) ⌝ }
 {
     let given = cells.at;
     let n = cells.n;
     let turn = touch_given(mines, shown, work, given, n);
-    let hit = work_off(mines, shown, work, rows, columns, turn);
-    if hit {
+    let o = work_off(mines, shown, work, rows, columns, turn);
+    if o.hit {
         cross_flags(mines, shown);
     }
-    hit
+    o
 }

@@ -1,4 +1,4 @@
--- The line of an outcome: the answer with its place, the position, the shown board and the bits, as decimal numbers.
+-- The line of an outcome: the answer with its place, what was opened, the position, the shown board and the bits, as decimal numbers.
 use mathlib.Core.List.{List, [], _∷_, _++_}
 use Prim.Native.Nat.{ℕ, _+_, _*_}
 use Rattle.rules.specs.declared.Answer.{Answer}
@@ -15,9 +15,9 @@ numbersOf p =
     p .settings .rows ∷ p .settings .columns ∷ p .settings .mode ∷ bit (p .settings .question) ∷ gameNumber (p .game)
     ∷ mouseNumber (p .mouse) ∷ bit (p .middle) ∷ p .preflags ∷ p .events ∷ nineCounts p
 
--- what follows an answer's own number: its place, and its position
+-- what follows an answer's own number: its place, its value, which is what a step opened, and its position
 abbrev pub answerNumbers : Answer → List ℕ
-answerNumbers a = rowByte (a .place) ∷ columnByte (a .place) ∷ numbersOf (a .position)
+answerNumbers a = rowByte (a .place) ∷ columnByte (a .place) ∷ a .value ∷ numbersOf (a .position)
 
 abbrev pub outcomeLine : Answer → List ℕ → List ℕ → List ℕ
 outcomeLine a shown bits =
@@ -26,6 +26,6 @@ outcomeLine a shown bits =
 abbrev pub lineAfter : Outcome → List ℕ
 lineAfter o = outcomeLine (o .answer) (o .shown) (o .bits)
 
--- its room: twenty-one numbers of at most ten digits, and four bytes for each cell and each byte of bits
+-- its room: twenty-two numbers of at most ten digits, and four bytes for each cell and each byte of bits
 abbrev pub outcomeRoom : ℕ → ℕ → ℕ
-outcomeRoom cells bytes = 231 + (4 * cells + 4 * bytes)
+outcomeRoom cells bytes = 242 + (4 * cells + 4 * bytes)

@@ -121,8 +121,8 @@ pub fn sign_all(bytes: &[u8], mines: &mut [i8])
 
 // ---- the line of an outcome ------------------------------------------------------------------------------------------------------------
 
-// The two numbers of an answer's place, and the eighteen of its position.
-fn numbers(a: Answer) -> [u32; 20]
+// The two numbers of an answer's place, its value, and the eighteen of its position.
+fn numbers(a: Answer) -> [u32; 21]
     ensures { λ r. ⌜ r ≡ answerNumbers a ⌝ }
 {
     let x = a.place;
@@ -135,6 +135,7 @@ fn numbers(a: Answer) -> [u32; 20]
     [
         writing::wide(rules::row_byte(x)),
         writing::wide(rules::column_byte(x)),
+        a.value,
         writing::wide(s.rows),
         writing::wide(s.columns),
         writing::wide(s.mode),

@@ -35,6 +35,7 @@ fn pre_left(
         let q = clicks::add_left(p);
         return Played {
             answer: 0,
+            opened: 0,
             position: q,
         };
     }
@@ -42,12 +43,14 @@ fn pre_left(
         let q = preflags::clear(p, &mut *bits);
         return Played {
             answer: 0,
+            opened: 0,
             position: q,
         };
     }
     let q = clicks::add_left(p);
     Played {
         answer: 0,
+        opened: 0,
         position: q,
     }
 }

@@ -1,7 +1,7 @@
 -- The entry points: for each call, its refusals in their order, and its one outcome for every input.
 use mathlib.Core.Bool.{Bool, true, _&&_, _||_}
 use mathlib.Core.List.{List, [], _∷_}
-use Prim.Native.Nat.{ℕ, _+_, _*_, _%_}
+use Prim.Native.Nat.{ℕ, _+_, _-_, _*_, _%_}
 use lib.Dec.{ltb, leb, eqb}
 use lib.ListN.{length, replicate}
 use lib.IntN.{ℤ}
@@ -18,7 +18,7 @@ use Rattle.rules.specs.Lent.{bitBytes, workRoom, workAfter}
 use Rattle.rules.specs.Judging.{total3bv, leftToSolve}
 use Rattle.rules.specs.Clicks.{Desk, Play, desk, done}
 use Rattle.rules.specs.Step.{stepOn}
-use Rattle.rules.specs.Lawful.{lawfulRefusal}
+use Rattle.rules.specs.Lawful.{countShown, isOpen, lawfulRefusal}
 
 -- an answer, and what stands in the lent buffers after the call
 pub record Outcome : Type 0 where
@@ -136,17 +136,22 @@ refused n d work = outcome (answers n (d .position) 0) (d .shown) (d .bits) work
 abbrev pub refusedAt : List ℤ → ℕ → Desk → List ℕ → Outcome
 refusedAt B n d work = outcome (refuses B (d .position) n) (d .shown) (d .bits) work
 
-abbrev pub accepted : ℕ → Desk → List ℕ → Outcome
-accepted n d work = outcome (answers n (d .position) 0) (d .shown) (d .bits) (workAfter (cellsIn (d .position .settings)) work)
+abbrev pub accepted : ℕ → ℕ → Desk → List ℕ → Outcome
+accepted n v d work = outcome (answers n (d .position) v) (d .shown) (d .bits) (workAfter (cellsIn (d .position .settings)) work)
 
--- a played event, refused from 20 on
-abbrev pub played : Play → List ℕ → Outcome
-played o work = pick (leb 20 (o .answer)) (refused (o .answer) (o .desk) work) (accepted (o .answer) (o .desk) work)
+-- how many cells went from closed to showing 0 to 8: the open cells after less those before
+abbrev pub openedIn : List ℕ → List ℕ → ℕ
+openedIn before after = countShown isOpen after - countShown isOpen before
+
+-- a played event, refused from 20 on; beside its answer stands what it opened
+abbrev pub played : List ℕ → Play → List ℕ → Outcome
+played before o work =
+    pick (leb 20 (o .answer)) (refused (o .answer) (o .desk) work) (accepted (o .answer) (openedIn before (o .desk .shown)) (o .desk) work)
 
 -- a step tests all, 20 to 33
 unfoldable pub stepOf : List ℤ → ℕ → ℕ → ℕ → Desk → List ℕ → Outcome
 stepOf B code r c d work =
-    pick (eqb (lentRefusal B d work) 0) (played (stepOn B code r c d) work) (refusedAt B (lentRefusal B d work) d work)
+    pick (eqb (lentRefusal B d work) 0) (played (d .shown) (stepOn B code r c d) work) (refusedAt B (lentRefusal B d work) d work)
 
 -- ---- step_flow -------------------------------------------------------------------------------------------------------------------------
 

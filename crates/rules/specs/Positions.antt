@@ -1,5 +1,5 @@
--- The positions that document 01 marks P, and two beside them, as one table and one theorem that the checker computes over the definitions.
--- Open is lc, lr; flag rc, rr. Each row is a game from its fresh start: settings, mine list, events, and all that stands at its end.
+-- The positions that document 01 marks P, and three beside them, as one table and one theorem that the checker computes over the definitions.
+-- Open is lc, lr; flag rc, rr. Each row is a game from its fresh start: settings, mine list, events, all that stands at its end, and what each event opened.
 use mathlib.Core.Path.{_≡_, refl}
 use mathlib.Core.Bool.{Bool, true, false, _&&_}
 use mathlib.Core.List.{List, [], _∷_, _++_}
@@ -19,7 +19,8 @@ use Rattle.rules.specs.Clicks.{Desk, Play, done, rowsOf, columnsOf, cell
 use Rattle.rules.specs.Passes.{remainder, allClosed, ripeAt, listed, flagOne, flagAll, flagRound, flagPass, chordOne, chordScan, chordRound, chordPass, bothRound, bothPass, passesAfterFlag, passesAfterChord, rightClick, chordingClick}
 use Rattle.rules.specs.Mouse.{mouseTable, nextMouse, moved, bothDown, resolved, flipped}
 use Rattle.rules.specs.Step.{seenAt, leftAt, rightAt, chordAt, chordFrom, playLc, playLr, playRc, playRr, playing, preFlag, readyLc, readyRc, ready, preLeft, preLr, preCell, preRight, preRc, preFlaging, byGame, pointerOf, eventOf, errsPlaying, errsPreFlaging, badPreFlag, eventRefusal, plainOf, refusalAt, playAt, stepAt, stepBy, stepOn}
-use Rattle.rules.specs.Calls.{freshDesk, plays, lastPlay}
+use Rattle.rules.specs.Lawful.{countShown}
+use Rattle.rules.specs.Calls.{freshDesk, openedIn, plays, lastPlay}
 use Rattle.rules.specs.Printout.{nineCounts, twoBv}
 
 pub record Row : Type 0 where
@@ -29,6 +30,7 @@ pub record Row : Type 0 where
   pub events : List ℕ
   pub gives : List ℕ
   pub remainders : List ℤ
+  pub opened : List ℕ
 
 -- the last answer, the game and mouse states, the nine counts, the bv line, the shown cells
 unfoldable told : Settings → List ℕ → Play → List ℕ
@@ -46,9 +48,17 @@ boardIn t = numbered (t .settings .rows) (t .settings .columns) (t .mines)
 abbrev refusalIn : Row → ℕ
 refusalIn t = numberingRefusal (t .settings .rows) (t .settings .columns) (t .mines) (boardIn t)
 
--- the last play of its game
+-- the plays of its game, and the last
+unfoldable played : Row → List Play
+played t = plays (boardIn t) (t .events) (fresh (t .settings) .desk)
+
 unfoldable last : Row → Play
-last t = lastPlay (fresh (t .settings)) (plays (boardIn t) (t .events) (fresh (t .settings) .desk))
+last t = lastPlay (fresh (t .settings)) (played t)
+
+-- what each play opened
+unfoldable openedFrom : List ℕ → List Play → List ℕ
+openedFrom before [] = []
+openedFrom before (o ∷ os) = openedIn before (o .desk .shown) ∷ openedFrom (o .desk .shown) os
 
 -- a game played, or that refusal
 unfoldable ends : Row → List ℕ
@@ -78,14 +88,18 @@ pub wrongRows : List Row → List ℕ
 wrongRows [] = []
 wrongRows (t ∷ ts) =
     let more = wrongRows ts in
-    pick (same eqb (ends t) (t .gives) && same eqz (remaindersIn (last t .desk) (cellsOf (last t .desk))) (t .remainders)) more (t .name ∷ more)
+    pick
+    (same eqb (ends t) (t .gives)
+    && (same eqz (remaindersIn (last t .desk) (cellsOf (last t .desk))) (t .remainders) && same eqb (openedFrom (fresh (t .settings) .desk .shown) (played t)) (t .opened)))
+    more (t .name ∷ more)
 
 -- rows, columns, mode, question marks
 size : ℕ → ℕ → ℕ → Bool → Settings
 size R C mode q = record { rows = R; columns = C; mode = mode; question = q }
 
-row : ℕ → Settings → List ℕ → List ℕ → List ℕ → List ℤ → Row
-row n s mines events gives remainders = record { name = n; settings = s; mines = mines; events = events; gives = gives; remainders = remainders }
+row : ℕ → Settings → List ℕ → List ℕ → List ℕ → List ℤ → List ℕ → Row
+row n s mines events gives remainders opened =
+    record { name = n; settings = s; mines = mines; events = events; gives = gives; remainders = remainders; opened = opened }
 
 open′ : ℕ → ℕ → List ℕ → List ℕ
 open′ r c es = 0 ∷ r ∷ c ∷ 1 ∷ r ∷ c ∷ es
@@ -97,56 +111,59 @@ event : ℕ → ℕ → ℕ → List ℕ → List ℕ
 event code r c es = code ∷ r ∷ c ∷ es
 
 -- each row gives: answer, game, mouse; left, right, double, lce, rce, dce, flag, solved_left, solved_chord; total, left to solve; the shown cells;
--- and the remainder of each cell that then shows 1 to 8, where negsuc 0 is -1
+-- the remainder of each cell that then shows 1 to 8, where negsuc 0 is -1; and how many cells each event opened
 pub table : List Row
 table =
     -- the worked printout: 1×3, mine (0,1); open (0,0), flag (0,1), open (0,2)
     row 1 (size 1 3 0 false) (0 ∷ 1 ∷ []) (open′ 0 0 (flag′ 0 1 (open′ 0 2 [])))
-    (2 ∷ 2 ∷ 0 ∷ 2 ∷ 1 ∷ 0 ∷ 2 ∷ 1 ∷ 0 ∷ 1 ∷ 2 ∷ 0 ∷ 2 ∷ 0 ∷ 1 ∷ 11 ∷ 1 ∷ []) (pos 0 ∷ pos 0 ∷ [])
+    (2 ∷ 2 ∷ 0 ∷ 2 ∷ 1 ∷ 0 ∷ 2 ∷ 1 ∷ 0 ∷ 1 ∷ 2 ∷ 0 ∷ 2 ∷ 0 ∷ 1 ∷ 11 ∷ 1 ∷ []) (pos 0 ∷ pos 0 ∷ []) (0 ∷ 1 ∷ 0 ∷ 0 ∷ 0 ∷ 1 ∷ [])
     -- 2×2, mine (0,0); open (1,1), flag (0,0), mr (1,1): 3, Win, solved 1 and 2
     ∷ row 2 (size 2 2 0 false) (0 ∷ 0 ∷ []) (open′ 1 1 (flag′ 0 0 (event 6 1 1 [])))
-    (3 ∷ 2 ∷ 0 ∷ 1 ∷ 1 ∷ 1 ∷ 1 ∷ 1 ∷ 1 ∷ 1 ∷ 1 ∷ 2 ∷ 3 ∷ 0 ∷ 11 ∷ 1 ∷ 1 ∷ 1 ∷ []) (pos 0 ∷ pos 0 ∷ pos 0 ∷ [])
+    (3 ∷ 2 ∷ 0 ∷ 1 ∷ 1 ∷ 1 ∷ 1 ∷ 1 ∷ 1 ∷ 1 ∷ 1 ∷ 2 ∷ 3 ∷ 0 ∷ 11 ∷ 1 ∷ 1 ∷ 1 ∷ []) (pos 0 ∷ pos 0 ∷ pos 0 ∷ []) (0 ∷ 1 ∷ 0 ∷ 0 ∷ 2 ∷ [])
     -- 3×3, mine (2,2); open (1,1), flag (2,0), mr (1,1): 4, rows 0 0 0 / 0 1 1 / 14 1 15, solved_chord 1
     ∷ row 3 (size 3 3 0 false) (2 ∷ 2 ∷ []) (open′ 1 1 (flag′ 2 0 (event 6 1 1 [])))
-    (4 ∷ 3 ∷ 0 ∷ 1 ∷ 1 ∷ 1 ∷ 1 ∷ 0 ∷ 1 ∷ 1 ∷ 0 ∷ 1 ∷ 1 ∷ 0 ∷ 0 ∷ 0 ∷ 0 ∷ 0 ∷ 1 ∷ 1 ∷ 14 ∷ 1 ∷ 15 ∷ []) (pos 1 ∷ pos 1 ∷ pos 1 ∷ [])
+    (4 ∷ 3 ∷ 0 ∷ 1 ∷ 1 ∷ 1 ∷ 1 ∷ 0 ∷ 1 ∷ 1 ∷ 0 ∷ 1 ∷ 1 ∷ 0 ∷ 0 ∷ 0 ∷ 0 ∷ 0 ∷ 1 ∷ 1 ∷ 14 ∷ 1 ∷ 15 ∷ []) (pos 1 ∷ pos 1 ∷ pos 1 ∷ []) (0 ∷ 1 ∷ 0 ∷ 0 ∷ 6 ∷ [])
     -- 1×3, mine (0,0), mode 11; open (0,1), flag (0,2), mr (0,0): answer 0, Loss, 15 1 14, dce 0
     ∷ row 4 (size 1 3 11 false) (0 ∷ 0 ∷ []) (open′ 0 1 (flag′ 0 2 (event 6 0 0 [])))
-    (0 ∷ 3 ∷ 0 ∷ 1 ∷ 1 ∷ 1 ∷ 1 ∷ 0 ∷ 0 ∷ 1 ∷ 0 ∷ 0 ∷ 1 ∷ 1 ∷ 15 ∷ 1 ∷ 14 ∷ []) (pos 1 ∷ [])
+    (0 ∷ 3 ∷ 0 ∷ 1 ∷ 1 ∷ 1 ∷ 1 ∷ 0 ∷ 0 ∷ 1 ∷ 0 ∷ 0 ∷ 1 ∷ 1 ∷ 15 ∷ 1 ∷ 14 ∷ []) (pos 1 ∷ []) (0 ∷ 1 ∷ 0 ∷ 0 ∷ 0 ∷ [])
     -- 1×3, mine (0,1), questions on; rc, rr on (0,0), (0,2), (0,0), (0,2), then rc (0,0): 1, Ready, right 0, 10 10 17
     ∷ row 5 (size 1 3 0 true) (0 ∷ 1 ∷ []) (flag′ 0 0 (flag′ 0 2 (flag′ 0 0 (flag′ 0 2 (event 2 0 0 [])))))
-    (1 ∷ 0 ∷ 1 ∷ 0 ∷ 0 ∷ 0 ∷ 0 ∷ 0 ∷ 0 ∷ 0 ∷ 0 ∷ 0 ∷ 2 ∷ 2 ∷ 10 ∷ 10 ∷ 17 ∷ []) []
+    (1 ∷ 0 ∷ 1 ∷ 0 ∷ 0 ∷ 0 ∷ 0 ∷ 0 ∷ 0 ∷ 0 ∷ 0 ∷ 0 ∷ 2 ∷ 2 ∷ 10 ∷ 10 ∷ 17 ∷ []) [] (0 ∷ 0 ∷ 0 ∷ 0 ∷ 0 ∷ 0 ∷ 0 ∷ 0 ∷ 0 ∷ [])
     -- 3×4, all eight around (1,1) mined, mode 12; open (1,1), flag (0,0): eight flags, rce 1
     ∷ row 6 (size 3 4 12 false) (0 ∷ 0 ∷ 0 ∷ 1 ∷ 0 ∷ 2 ∷ 1 ∷ 0 ∷ 1 ∷ 2 ∷ 2 ∷ 0 ∷ 2 ∷ 1 ∷ 2 ∷ 2 ∷ []) (open′ 1 1 (event 2 0 0 []))
-    (1 ∷ 1 ∷ 1 ∷ 1 ∷ 1 ∷ 0 ∷ 1 ∷ 1 ∷ 0 ∷ 8 ∷ 1 ∷ 0 ∷ 4 ∷ 3 ∷ 11 ∷ 11 ∷ 11 ∷ 10 ∷ 11 ∷ 8 ∷ 11 ∷ 10 ∷ 11 ∷ 11 ∷ 11 ∷ 10 ∷ []) (pos 0 ∷ [])
+    (1 ∷ 1 ∷ 1 ∷ 1 ∷ 1 ∷ 0 ∷ 1 ∷ 1 ∷ 0 ∷ 8 ∷ 1 ∷ 0 ∷ 4 ∷ 3 ∷ 11 ∷ 11 ∷ 11 ∷ 10 ∷ 11 ∷ 8 ∷ 11 ∷ 10 ∷ 11 ∷ 11 ∷ 11 ∷ 10 ∷ []) (pos 0 ∷ []) (0 ∷ 1 ∷ 0 ∷ [])
     -- mr (1,1) then answers 0
     ∷ row 7 (size 3 4 12 false) (0 ∷ 0 ∷ 0 ∷ 1 ∷ 0 ∷ 2 ∷ 1 ∷ 0 ∷ 1 ∷ 2 ∷ 2 ∷ 0 ∷ 2 ∷ 1 ∷ 2 ∷ 2 ∷ []) (open′ 1 1 (flag′ 0 0 (event 6 1 1 [])))
-    (0 ∷ 1 ∷ 0 ∷ 1 ∷ 1 ∷ 1 ∷ 1 ∷ 1 ∷ 0 ∷ 8 ∷ 1 ∷ 0 ∷ 4 ∷ 3 ∷ 11 ∷ 11 ∷ 11 ∷ 10 ∷ 11 ∷ 8 ∷ 11 ∷ 10 ∷ 11 ∷ 11 ∷ 11 ∷ 10 ∷ []) (pos 0 ∷ [])
+    (0 ∷ 1 ∷ 0 ∷ 1 ∷ 1 ∷ 1 ∷ 1 ∷ 1 ∷ 0 ∷ 8 ∷ 1 ∷ 0 ∷ 4 ∷ 3 ∷ 11 ∷ 11 ∷ 11 ∷ 10 ∷ 11 ∷ 8 ∷ 11 ∷ 10 ∷ 11 ∷ 11 ∷ 11 ∷ 10 ∷ []) (pos 0 ∷ []) (0 ∷ 1 ∷ 0 ∷ 0 ∷ 0 ∷ [])
     -- 1×4, mine (0,0), mode 12; open (0,1), flag (0,2), flag (0,0): remainder -1, 11 1 11 10
     ∷ row 8 (size 1 4 12 false) (0 ∷ 0 ∷ []) (open′ 0 1 (flag′ 0 2 (flag′ 0 0 [])))
-    (0 ∷ 1 ∷ 0 ∷ 1 ∷ 2 ∷ 0 ∷ 1 ∷ 1 ∷ 0 ∷ 2 ∷ 0 ∷ 0 ∷ 1 ∷ 1 ∷ 11 ∷ 1 ∷ 11 ∷ 10 ∷ []) (negsuc 0 ∷ [])
+    (0 ∷ 1 ∷ 0 ∷ 1 ∷ 2 ∷ 0 ∷ 1 ∷ 1 ∷ 0 ∷ 2 ∷ 0 ∷ 0 ∷ 1 ∷ 1 ∷ 11 ∷ 1 ∷ 11 ∷ 10 ∷ []) (negsuc 0 ∷ []) (0 ∷ 1 ∷ 0 ∷ 0 ∷ 0 ∷ 0 ∷ [])
     -- 1×3 pointers: (1,3) accepted, (0,3) and (1,2) 30
     ∷ row 9 (size 1 3 0 false) (0 ∷ 1 ∷ []) (event 4 1 3 [])
-    (0 ∷ 0 ∷ 0 ∷ 0 ∷ 0 ∷ 0 ∷ 0 ∷ 0 ∷ 0 ∷ 0 ∷ 0 ∷ 0 ∷ 2 ∷ 2 ∷ 10 ∷ 10 ∷ 10 ∷ []) []
+    (0 ∷ 0 ∷ 0 ∷ 0 ∷ 0 ∷ 0 ∷ 0 ∷ 0 ∷ 0 ∷ 0 ∷ 0 ∷ 0 ∷ 2 ∷ 2 ∷ 10 ∷ 10 ∷ 10 ∷ []) [] (0 ∷ [])
     ∷ row 10 (size 1 3 0 false) (0 ∷ 1 ∷ []) (event 4 0 3 [])
-    (30 ∷ 0 ∷ 0 ∷ 0 ∷ 0 ∷ 0 ∷ 0 ∷ 0 ∷ 0 ∷ 0 ∷ 0 ∷ 0 ∷ 2 ∷ 2 ∷ 10 ∷ 10 ∷ 10 ∷ []) []
+    (30 ∷ 0 ∷ 0 ∷ 0 ∷ 0 ∷ 0 ∷ 0 ∷ 0 ∷ 0 ∷ 0 ∷ 0 ∷ 0 ∷ 2 ∷ 2 ∷ 10 ∷ 10 ∷ 10 ∷ []) [] (0 ∷ [])
     ∷ row 11 (size 1 3 0 false) (0 ∷ 1 ∷ []) (event 4 1 2 [])
-    (30 ∷ 0 ∷ 0 ∷ 0 ∷ 0 ∷ 0 ∷ 0 ∷ 0 ∷ 0 ∷ 0 ∷ 0 ∷ 0 ∷ 2 ∷ 2 ∷ 10 ∷ 10 ∷ 10 ∷ []) []
+    (30 ∷ 0 ∷ 0 ∷ 0 ∷ 0 ∷ 0 ∷ 0 ∷ 0 ∷ 0 ∷ 0 ∷ 0 ∷ 0 ∷ 2 ∷ 2 ∷ 10 ∷ 10 ∷ 10 ∷ []) [] (0 ∷ [])
     -- Playing, UpDownNotFlag (a right press on the open cell), r: 0, state kept
     ∷ row 12 (size 1 3 0 false) (0 ∷ 1 ∷ []) (open′ 0 0 (event 2 0 0 (event 10 0 0 [])))
-    (0 ∷ 1 ∷ 2 ∷ 1 ∷ 1 ∷ 0 ∷ 1 ∷ 0 ∷ 0 ∷ 0 ∷ 1 ∷ 0 ∷ 2 ∷ 1 ∷ 1 ∷ 10 ∷ 10 ∷ []) (pos 1 ∷ [])
+    (0 ∷ 1 ∷ 2 ∷ 1 ∷ 1 ∷ 0 ∷ 1 ∷ 0 ∷ 0 ∷ 0 ∷ 1 ∷ 0 ∷ 2 ∷ 1 ∷ 1 ∷ 10 ∷ 10 ∷ []) (pos 1 ∷ []) (0 ∷ 1 ∷ 0 ∷ 0 ∷ [])
     -- 1×1 safe opens to Win; 1×1 mine 24
-    ∷ row 13 (size 1 1 0 false) [] (open′ 0 0 []) (2 ∷ 2 ∷ 0 ∷ 1 ∷ 0 ∷ 0 ∷ 1 ∷ 0 ∷ 0 ∷ 0 ∷ 1 ∷ 0 ∷ 1 ∷ 0 ∷ 0 ∷ []) []
-    ∷ row 14 (size 1 1 0 false) (0 ∷ 0 ∷ []) [] (24 ∷ []) []
+    ∷ row 13 (size 1 1 0 false) [] (open′ 0 0 []) (2 ∷ 2 ∷ 0 ∷ 1 ∷ 0 ∷ 0 ∷ 1 ∷ 0 ∷ 0 ∷ 0 ∷ 1 ∷ 0 ∷ 1 ∷ 0 ∷ 0 ∷ []) [] (0 ∷ 1 ∷ [])
+    ∷ row 14 (size 1 1 0 false) (0 ∷ 0 ∷ []) [] (24 ∷ []) [] []
     -- beside the paper's: a remainder of -2 with two closed neighbours flags nothing; 2×3, mine (0,0), mode 12; open (0,1), flag (0,2), (1,2), (1,1)
     ∷ row 15 (size 2 3 12 false) (0 ∷ 0 ∷ []) (open′ 0 1 (flag′ 0 2 (flag′ 1 2 (flag′ 1 1 []))))
-    (0 ∷ 1 ∷ 0 ∷ 1 ∷ 3 ∷ 0 ∷ 1 ∷ 0 ∷ 0 ∷ 3 ∷ 0 ∷ 0 ∷ 2 ∷ 2 ∷ 10 ∷ 1 ∷ 11 ∷ 10 ∷ 11 ∷ 11 ∷ []) (negsuc 1 ∷ [])
+    (0 ∷ 1 ∷ 0 ∷ 1 ∷ 3 ∷ 0 ∷ 1 ∷ 0 ∷ 0 ∷ 3 ∷ 0 ∷ 0 ∷ 2 ∷ 2 ∷ 10 ∷ 1 ∷ 11 ∷ 10 ∷ 11 ∷ 11 ∷ []) (negsuc 1 ∷ []) (0 ∷ 1 ∷ 0 ∷ 0 ∷ 0 ∷ 0 ∷ 0 ∷ 0 ∷ [])
     -- the solved counts may pass the total; 1×3, no mine: flag (0,0) and (0,2), open (0,1), take both back, open (0,0) and (0,2)
     ∷ row 16 (size 1 3 0 false) [] (flag′ 0 0 (flag′ 0 2 (open′ 0 1 (flag′ 0 0 (flag′ 0 2 (open′ 0 0 (open′ 0 2 [])))))))
-    (2 ∷ 2 ∷ 0 ∷ 3 ∷ 4 ∷ 0 ∷ 3 ∷ 0 ∷ 0 ∷ 0 ∷ 2 ∷ 0 ∷ 1 ∷ 0 ∷ 0 ∷ 0 ∷ 0 ∷ []) []
+    (2 ∷ 2 ∷ 0 ∷ 3 ∷ 4 ∷ 0 ∷ 3 ∷ 0 ∷ 0 ∷ 0 ∷ 2 ∷ 0 ∷ 1 ∷ 0 ∷ 0 ∷ 0 ∷ 0 ∷ []) [] (0 ∷ 0 ∷ 0 ∷ 0 ∷ 0 ∷ 1 ∷ 0 ∷ 0 ∷ 0 ∷ 0 ∷ 0 ∷ 1 ∷ 0 ∷ 1 ∷ [])
+    -- a flag beside which a cell is opened: 1×6, mines (0,0) and (0,3), mode 13; open (0,1), flag (0,0): the chord pass opens (0,2)
+    ∷ row 17 (size 1 6 13 false) (0 ∷ 0 ∷ 0 ∷ 3 ∷ []) (open′ 0 1 (flag′ 0 0 []))
+    (0 ∷ 1 ∷ 0 ∷ 1 ∷ 1 ∷ 0 ∷ 1 ∷ 1 ∷ 0 ∷ 2 ∷ 1 ∷ 1 ∷ 3 ∷ 1 ∷ 11 ∷ 1 ∷ 1 ∷ 11 ∷ 10 ∷ 10 ∷ []) (pos 0 ∷ pos 0 ∷ []) (0 ∷ 1 ∷ 1 ∷ 0 ∷ [])
     ∷ []
 
 pub positions : wrongRows table ≡ []
-unfolding wrongRows same eqz remaindersIn last ends told fresh table row size open′ flag′ event count every inOrder stackOf below rounds mouseAt sizeOk ninth cellBefore neighbour
+unfolding wrongRows same eqz remaindersIn played last openedFrom countShown ends told fresh table row size open′ flag′ event count every inOrder stackOf below rounds mouseAt sizeOk ninth cellBefore neighbour
     around pushed zeroAt loneAt mineOk listedMine numberedAt numbered numberingRefusal bitAt withBit shownAfter stackAfter hitAfter run crossed refreshed freeAt
     kind walk walkFrom judgedLeft judgeOne tally openingsJudged lones total3bv isWon ended solvesLeft leftOpens leftClick bitsWith addsRce takeBack
     chordIsUseful chordOpens performChord allClosed ripeAt listed flagOne flagAll flagRound flagPass chordOne chordScan chordRound chordPass bothRound bothPass

@@ -83,9 +83,10 @@ pub struct Position {
     pub secrets: Secrets,
 }
 
-// What an action of the hand answers, with the position that it leaves.
+// What an action of the hand answers, how many cells it opened, and the position that it leaves.
 pub struct Played {
     pub answer: u16,
+    pub opened: u32,
     pub position: Position,
 }
 

@@ -71,10 +71,11 @@ use Rattle.rules.specs.Step.{
   stepBy,
   stepOn,
 }
+use Rattle.rules.specs.Lawful.{countShown}
 use Rattle.rules.specs.Calls.{plays, cellsIn}
 use Rattle.cells.proofs.Words.{every-at}
-use Rattle.secrecy.specs.Demand.{Seen, seenAll, playsOn, game, stopped, lastDesk, endOf, AgreeWhere, AgreeOpen, AgreeFlag}
-use Rattle.secrecy.specs.Witness.{line, mine, opens, flags, playedA, playedB, playedEvents, lostA, lostB, lostEvents, onwardA, onwardB, onwardEvents, heard, end}
+use Rattle.secrecy.specs.Demand.{Seen, seenAll, seenOf, playsOn, game, stopped, lastDesk, endOf, AgreeWhere, AgreeOpen, AgreeFlag}
+use Rattle.secrecy.specs.Witness.{line, mine, opens, flags, playedA, playedB, playedEvents, lostA, lostB, lostEvents, onwardA, onwardB, onwardEvents, heard, sums, end}
 
 -- ---- the hypotheses as tests -------------------------------------------------------------------------------------------------------------
 
@@ -88,8 +89,8 @@ pub record Pair (ending : Settings → List ℕ → List ℤ → List Play) (s :
   pub first : boardCheck (s .rows) (s .columns) A ≡ 0
   pub second : boardCheck (s .rows) (s .columns) B ≡ 0
   pub ends : endOf s (ending s events A) ≡ shown
-  pub seenA : last-seen 0 (seenAll (game s events A)) ≡ a
-  pub seenB : last-seen 0 (seenAll (game s events B)) ≡ b
+  pub seenA : last-seen 0 (seenOf s (game s events A)) ≡ a
+  pub seenB : last-seen 0 (seenOf s (game s events B)) ≡ b
 
 module _ {ending : Settings → List ℕ → List ℤ → List Play} {s : Settings} {events : List ℕ} {A B : List ℤ} {shown : List ℕ} {a b : ℕ}
     (c : Pair ending s events A B shown a b) where
@@ -152,8 +153,9 @@ Onward = Pair game (line 5) onwardEvents onwardA onwardB (1 ∷ 11 ∷ 10 ∷ 10
 abbrev pub Refused : Type 0
 Refused = Pair stopped (line 2) (4 ∷ 0 ∷ 2 ∷ opens 0 []) (pos 1 ∷ mine ∷ []) (mine ∷ pos 1 ∷ []) (10 ∷ 10 ∷ []) 210 310
 
--- what is heard in the game that goes on, and if it were stopped
+-- what is heard in the game that goes on, with its sums, and if it were stopped
 pub record Heard : Type 0 where
+  pub sums : sums (seenOf (line 5) (game (line 5) onwardEvents onwardA)) ≡ 0 ∷ 0 ∷ 1 ∷ 0 ∷ 0 ∷ 0 ∷ 0 ∷ []
   pub game : heard (game (line 5) onwardEvents onwardA) ≡ 0 ∷ 32 ∷ 2 ∷ 33 ∷ 30 ∷ 1 ∷ 0 ∷ []
   pub stopped : heard (stopped (line 5) onwardEvents onwardA) ≡ 0 ∷ 32 ∷ []
 
@@ -178,7 +180,7 @@ pub record Games : Type 0 where
   pub kept : Kept
 
 pub games : Games
-unfolding last-seen heard seenAll playsOn lastDesk count every inOrder stackOf below rounds mouseAt sizeOk ninth cellBefore neighbour around pushed zeroAt loneAt valuesOk numberOk numbersOk someSafe boardRefusal boardCheck bitAt withBit shownAfter stackAfter
+unfolding last-seen heard sums countShown seenAll playsOn lastDesk count every inOrder stackOf below rounds mouseAt sizeOk ninth cellBefore neighbour around pushed zeroAt loneAt valuesOk numberOk numbersOk someSafe boardRefusal boardCheck bitAt withBit shownAfter stackAfter
     hitAfter run crossed refreshed freeAt kind walk walkFrom judgedLeft judgeOne tally openingsJudged lones isWon ended solvesLeft leftOpens leftClick bitsWith
     addsRce takeBack chordIsUseful chordOpens performChord allClosed ripeAt listed flagOne flagAll flagRound flagPass chordOne chordScan chordRound chordPass
     bothRound bothPass passesAfterFlag passesAfterChord rightClick chordingClick mouseTable nextMouse moved bothDown resolved flipped seenAt leftAt rightAt
@@ -194,6 +196,6 @@ games = record {
   flag = record { first = refl; second = refl; ends = refl; seenA = refl; seenB = refl };
   onward = record { first = refl; second = refl; ends = refl; seenA = refl; seenB = refl };
   refused = record { first = refl; second = refl; ends = refl; seenA = refl; seenB = refl };
-  heard = record { game = refl; stopped = refl };
+  heard = record { sums = refl; game = refl; stopped = refl };
   kept = record { secretsA = refl; secretsB = refl; bitsA = refl; bitsB = refl };
 }

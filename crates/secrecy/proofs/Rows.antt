@@ -17,7 +17,7 @@ use Rattle.rules.specs.Calls.{freshDesk, cellsIn}
 use Rattle.cells.specs.Ground.{Valued}
 use Rattle.cells.proofs.Face.{values-valued}
 use Rattle.keep.proofs.Lawful.{board-accepted}
-use Rattle.secrecy.specs.Demand.{Seen, seen, seenAll, lastDesk, endOf, Twins}
+use Rattle.secrecy.specs.Demand.{Seen, seen, seenAll, seenOf, lastDesk, endOf, Twins}
 use Rattle.secrecy.proofs.Lists.{entry-in}
 use Rattle.secrecy.proofs.Quiet.{bare, over, hiddenOf, aPlay, number, wrong, hit, flag, lostIn, Two, KnownIn, InvIn, AgreeIn, Quiet}
 
@@ -59,7 +59,7 @@ module _ (A B : List ℤ) (two : Two A B) where
       m .quiet d .same A B (hiddenOf d) (hiddenOf e) two ia ib′ agree ∙ ap (λ (x : Desk). aPlay .put (m .play B x) bare) e′
 
   row-same : (ms : List Move) (d e : Desk) → over d bare ≡ over e bare → InvIn A d → InvIn B e → AgreeIn A B (lastDesk d (rowOf A ms d))
-      → seenAll (rowOf A ms d) ≡ seenAll (rowOf B ms e)
+      → seenAll (d .shown) (rowOf A ms d) ≡ seenAll (e .shown) (rowOf B ms e)
   unfolding rowOf lastDesk seenAll
   row-same [] d e q ia ib agree = refl
   row-same (m ∷ ms) d e q ia ib agree =
@@ -68,8 +68,10 @@ module _ (A B : List ℤ) (two : Two A B) where
       let ja = move-keeps A (two .valuedA) m d ia in
       let jb = move-keeps B (two .valuedB) m e ib in
       let one : aPlay .put o bare ≡ aPlay .put p bare = move-same m d e q ia ib (λ j k. agree j (row-knows A (two .valuedA) ms (o .desk) ja j k)) in
-      ap (λ (x : Play). seen x ∷ seenAll (rowOf A ms (o .desk))) one
-      ∙ ap (λ (l : List Seen). seen p ∷ l) (row-same ms (o .desk) (p .desk) (ap (λ (x : Play). x .desk) one) ja jb agree)
+      let rest = seenAll (o .desk .shown) (rowOf A ms (o .desk)) in
+      ap (λ (x : Play). seen (d .shown) x ∷ rest) one
+      ∙ (ap (λ (x : Desk). seen (x .shown) p ∷ rest) q
+      ∙ ap (λ (l : List Seen). seen (e .shown) p ∷ l) (row-same ms (o .desk) (p .desk) (ap (λ (x : Play). x .desk) one) ja jb agree))
 
 -- ---- the fresh start ---------------------------------------------------------------------------------------------------------------------
 
@@ -111,7 +113,7 @@ off-board A B j e f = go (on-board A j) (on-board B j)
 
 -- twins cannot be told apart by quiet moves
 pub row-secrecy : (ms : List Move) (s : Settings) (A B : List ℤ) → Twins s (endOf s (rowOf A ms (freshDesk s))) A B
-    → seenAll (rowOf A ms (freshDesk s)) ≡ seenAll (rowOf B ms (freshDesk s))
+    → seenOf s (rowOf A ms (freshDesk s)) ≡ seenOf s (rowOf B ms (freshDesk s))
 row-secrecy ms s A B tw = row-same A B two ms (freshDesk s) (freshDesk s) refl ia (fresh-inv s B (b .0)) agree
   where
     a : (length A ≡ cellsIn s) × Valued A

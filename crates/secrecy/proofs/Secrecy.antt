@@ -12,7 +12,7 @@ use Rattle.rules.specs.Words.{pick}
 use Rattle.rules.specs.Clicks.{Desk, Play}
 use Rattle.rules.specs.Step.{stepOn}
 use Rattle.rules.specs.Calls.{freshDesk, plays}
-use Rattle.secrecy.specs.Demand.{Seen, seen, seenAll, playsOn, stopped, endOf, Twins, Demand, StoppedDemand}
+use Rattle.secrecy.specs.Demand.{Seen, seen, seenAll, seenOf, playsOn, stopped, endOf, Twins, Demand, StoppedDemand}
 use Rattle.secrecy.proofs.Events.{step-quiet}
 use Rattle.secrecy.proofs.Rows.{Move, rowOf, row-secrecy}
 
@@ -38,9 +38,9 @@ on-row B (code ∷ r ∷ c ∷ es) d = let o = stepOn B code r c d in ap (λ (l 
 -- THE theorem
 pub secrecy : Demand
 secrecy s events A B tw =
-    ap seenAll (on-row A events (freshDesk s))
+    ap (seenOf s) (on-row A events (freshDesk s))
     ∙ (row-secrecy (moves events) s A B (subst (λ (os : List Play). Twins s (endOf s os) A B) (on-row A events (freshDesk s)) tw)
-    ∙ sym (ap seenAll (on-row B events (freshDesk s))))
+    ∙ sym (ap (seenOf s) (on-row B events (freshDesk s))))
 
 -- ---- a game that is stopped --------------------------------------------------------------------------------------------------------------
 
@@ -65,10 +65,11 @@ plays-on B (code ∷ r ∷ c ∷ es) d =
 
 -- what is seen of the first n events is the same
 abbrev SameFor : List ℤ → List ℤ → List ℕ → Desk → Desk → ℕ → Type 0
-SameFor A B es d e n = seenAll (playsOn A (take (3 * n) es) d) ≡ seenAll (playsOn B (take (3 * n) es) e)
+SameFor A B es d e n = seenAll (d .shown) (playsOn A (take (3 * n) es) d) ≡ seenAll (e .shown) (playsOn B (take (3 * n) es) e)
 
 -- a second game that looks the same up to the first one's refusal is refused there too
-stops-alike : (A B : List ℤ) (es : List ℕ) (d e : Desk) → SameFor A B es d e (length (plays A es d)) → seenAll (plays A es d) ≡ seenAll (plays B es e)
+stops-alike : (A B : List ℤ) (es : List ℕ) (d e : Desk) → SameFor A B es d e (length (plays A es d))
+    → seenAll (d .shown) (plays A es d) ≡ seenAll (e .shown) (plays B es e)
 unfolding plays playsOn seenAll
 stops-alike A B [] d e h = refl
 stops-alike A B (code ∷ []) d e h = refl
@@ -78,18 +79,20 @@ stops-alike A B (code ∷ r ∷ c ∷ es) d e h =
     let p = stepOn B code r c e in
     let b = leb 20 (o .answer) in
     let n = length (pick b [] (plays A es (o .desk))) in
-    let all : seen o ∷ seenAll (playsOn A (take (3 * n) es) (o .desk)) ≡ seen p ∷ seenAll (playsOn B (take (3 * n) es) (p .desk)) = rw (three-more n) at h in
-    let one : seen o ≡ seen p = cc in
+    let all : seen (d .shown) o ∷ seenAll (o .desk .shown) (playsOn A (take (3 * n) es) (o .desk))
+    ≡ seen (e .shown) p ∷ seenAll (p .desk .shown) (playsOn B (take (3 * n) es) (p .desk)) = rw (three-more n) at h in
+    let one : seen (d .shown) o ≡ seen (e .shown) p = cc in
     let rest : SameFor A B es (o .desk) (p .desk) n = cc in
-    ap (λ (x : Seen). x ∷ seenAll (pick b [] (plays A es (o .desk)))) one
-    ∙ ap (λ (l : List Seen). seen p ∷ l)
-    (go (SameFor A B es (o .desk) (p .desk)) b (plays A es (o .desk)) (plays B es (p .desk)) (stops-alike A B es (o .desk) (p .desk)) rest
-    ∙ ap (λ (x : Seen). seenAll (pick (leb 20 (x .answer)) [] (plays B es (p .desk)))) one)
+    ap (λ (x : Seen). x ∷ seenAll (o .desk .shown) (pick b [] (plays A es (o .desk)))) one
+    ∙ ap (λ (l : List Seen). seen (e .shown) p ∷ l)
+    (go (SameFor A B es (o .desk) (p .desk)) b (o .desk .shown) (p .desk .shown) (plays A es (o .desk)) (plays B es (p .desk))
+    (stops-alike A B es (o .desk) (p .desk)) rest
+    ∙ ap (λ (x : Seen). seenAll (p .desk .shown) (pick (leb 20 (x .answer)) [] (plays B es (p .desk)))) one)
   where
-    go : (T : ℕ → Type 0) (b : Bool) (os ps : List Play) → (T (length os) → seenAll os ≡ seenAll ps) → T (length (pick b [] os))
-        → seenAll (pick b [] os) ≡ seenAll (pick b [] ps)
-    go T true os ps f h = refl
-    go T false os ps f h = f h
+    go : (T : ℕ → Type 0) (b : Bool) (x y : List ℕ) (os ps : List Play) → (T (length os) → seenAll x os ≡ seenAll y ps) → T (length (pick b [] os))
+        → seenAll x (pick b [] os) ≡ seenAll y (pick b [] ps)
+    go T true x y os ps f h = refl
+    go T false x y os ps f h = f h
 
 -- the events up to the first game's refusal, played in games that go on
 pub stopped-secrecy : StoppedDemand

@@ -8,8 +8,8 @@ use native.Mathlib.Omega.{arith}
 use lib.ListN.{getD}
 use Rattle.rules.specs.declared.Secrets.{Secrets}
 use Rattle.rules.specs.Words.{count, every}
-use Rattle.secrecy.specs.Demand.{seenAll, game, stopped, endOf, Twins}
-use Rattle.secrecy.specs.Witness.{line, playedA, playedB, playedEvents, lostA, lostB, lostEvents, onwardA, onwardB, onwardEvents, heard, end, Differ}
+use Rattle.secrecy.specs.Demand.{seenOf, game, stopped, endOf, Twins}
+use Rattle.secrecy.specs.Witness.{line, playedA, playedB, playedEvents, lostA, lostB, lostEvents, onwardA, onwardB, onwardEvents, heard, sums, end, Differ}
 use Rattle.secrecy.proofs.Secrecy.{secrecy}
 use Rattle.secrecy.proofs.Games.{open-agree, agree-at, no-hit, games}
 
@@ -64,14 +64,18 @@ onward-heard = games .heard .game
 pub stopped-heard : heard (stopped (line 5) onwardEvents onwardA) ≡ 0 ∷ 32 ∷ []
 stopped-heard = games .heard .stopped
 
+-- the number that was opened is one cell, and a refused event opens none
+pub onward-sums : sums (seenOf (line 5) (game (line 5) onwardEvents onwardA)) ≡ 0 ∷ 0 ∷ 1 ∷ 0 ∷ 0 ∷ 0 ∷ 0 ∷ []
+onward-sums = games .heard .sums
+
 -- what is seen of them is the same
-pub played-seen : seenAll (game (line 16) playedEvents playedA) ≡ seenAll (game (line 16) playedEvents playedB)
+pub played-seen : seenOf (line 16) (game (line 16) playedEvents playedA) ≡ seenOf (line 16) (game (line 16) playedEvents playedB)
 played-seen = secrecy (line 16) playedEvents playedA playedB played-twins
 
-pub lost-seen : seenAll (game (line 10) lostEvents lostA) ≡ seenAll (game (line 10) lostEvents lostB)
+pub lost-seen : seenOf (line 10) (game (line 10) lostEvents lostA) ≡ seenOf (line 10) (game (line 10) lostEvents lostB)
 lost-seen = secrecy (line 10) lostEvents lostA lostB lost-twins
 
-pub onward-seen : seenAll (game (line 5) onwardEvents onwardA) ≡ seenAll (game (line 5) onwardEvents onwardB)
+pub onward-seen : seenOf (line 5) (game (line 5) onwardEvents onwardA) ≡ seenOf (line 5) (game (line 5) onwardEvents onwardB)
 onward-seen = secrecy (line 5) onwardEvents onwardA onwardB onward-twins
 
 -- what is not promised differs

@@ -13,21 +13,25 @@ use Rattle.rules.specs.Words.{count}
 use Rattle.rules.specs.Board.{faceAt, mineAt, boardCheck}
 use Rattle.rules.specs.Clicks.{Desk, Play}
 use Rattle.rules.specs.Step.{stepOn}
-use Rattle.rules.specs.Calls.{cellsIn, freshDesk, plays}
+use Rattle.rules.specs.Calls.{cellsIn, freshDesk, openedIn, plays}
 
 -- ---- what is seen ----------------------------------------------------------------------------------------------------------------------
 
--- what is seen of a play: its answer or refusal, the shown board, the states, and the counts left, right, double, lce, dce and flag
+-- what is seen of a play: its answer or refusal, how many cells it opened, the shown board, the states, and the counts left, right, double,
+-- lce, dce and flag
 pub record Seen : Type 0 where
   pub answer : ℕ
+  pub opened : ℕ
   pub shown : List ℕ
   pub game : GameState
   pub mouse : MouseState
   pub counts : Counts
 
-abbrev pub seen : Play → Seen
-seen o = record {
+-- `before` is what was shown when it began: a refused play leaves it, and has opened none
+abbrev pub seen : List ℕ → Play → Seen
+seen before o = record {
   answer = o .answer;
+  opened = openedIn before (o .desk .shown);
   shown = o .desk .shown;
   game = o .desk .position .game;
   mouse = o .desk .position .mouse;
@@ -35,9 +39,9 @@ seen o = record {
 }
 
 -- what is seen after each play, in order
-unfoldable pub seenAll : List Play → List Seen
-seenAll [] = []
-seenAll (o ∷ os) = seen o ∷ seenAll os
+unfoldable pub seenAll : List ℕ → List Play → List Seen
+seenAll before [] = []
+seenAll before (o ∷ os) = seen before o ∷ seenAll (o .desk .shown) os
 
 -- ---- a game ----------------------------------------------------------------------------------------------------------------------------
 
@@ -62,7 +66,11 @@ unfoldable pub lastDesk : Desk → List Play → Desk
 lastDesk d [] = d
 lastDesk d (o ∷ os) = lastDesk (o .desk) os
 
--- what is shown at the end of a game
+-- what is seen of a game, from its fresh start
+abbrev pub seenOf : Settings → List Play → List Seen
+seenOf s os = seenAll (freshDesk s .shown) os
+
+-- what is shown at its end
 abbrev pub endOf : Settings → List Play → List ℕ
 endOf s os = lastDesk (freshDesk s) os .shown
 
@@ -102,14 +110,14 @@ pub record Twins (s : Settings) (end : List ℕ) (A B : List ℤ) : Type 0 where
 
 -- ---- the demand ------------------------------------------------------------------------------------------------------------------------
 
--- THE demand: after every event, refused ones too, both games give the same answer or refusal, shown board, game and mouse state and
--- counts; in every mode, with question marks on or off, whatever the events are
+-- THE demand: after every event, refused ones too, both games give the same answer or refusal, sum of opened cells, shown board, game and mouse
+-- state and counts; in every mode, with question marks on or off, whatever the events are
 abbrev pub Demand : Type 0
 Demand =
-    (s : Settings) (events : List ℕ) (A B : List ℤ) → Twins s (endOf s (game s events A)) A B → seenAll (game s events A) ≡ seenAll (game s events B)
+    (s : Settings) (events : List ℕ) (A B : List ℤ) → Twins s (endOf s (game s events A)) A B → seenOf s (game s events A) ≡ seenOf s (game s events B)
 
 -- the same of games that are stopped, as a book's is
 abbrev pub StoppedDemand : Type 0
 StoppedDemand =
     (s : Settings) (events : List ℕ) (A B : List ℤ) → Twins s (endOf s (stopped s events A)) A B
-    → seenAll (stopped s events A) ≡ seenAll (stopped s events B)
+    → seenOf s (stopped s events A) ≡ seenOf s (stopped s events B)

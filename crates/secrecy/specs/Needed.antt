@@ -7,7 +7,7 @@ use lib.IntN.{ℤ}
 use Rattle.rules.specs.declared.Settings.{Settings}
 use Rattle.rules.specs.Board.{boardCheck}
 use Rattle.rules.specs.Clicks.{Play}
-use Rattle.secrecy.specs.Demand.{seenAll, game, stopped, endOf, SameMines, AgreeOpen, AgreeWrong, AgreeHit, AgreeFlag, Twins}
+use Rattle.secrecy.specs.Demand.{seenOf, game, stopped, endOf, SameMines, AgreeOpen, AgreeWrong, AgreeHit, AgreeFlag, Twins}
 
 -- games on two accepted boards that meet these hypotheses at such an end, and do not look alike
 pub record NotEnough (ending : Settings → List ℕ → List ℤ → List Play) (Met : Settings → List ℕ → List ℤ → List ℤ → Type 0) : Type 0 where
@@ -18,7 +18,7 @@ pub record NotEnough (ending : Settings → List ℕ → List ℤ → List Play)
   pub first : boardCheck (s .rows) (s .columns) A ≡ 0
   pub second : boardCheck (s .rows) (s .columns) B ≡ 0
   pub met : Met s (endOf s (ending s events A)) A B
-  pub differ : seenAll (game s events A) ≡ seenAll (game s events B) → ⊥
+  pub differ : seenOf s (game s events A) ≡ seenOf s (game s events B) → ⊥
 
 -- each hypothesis is needed beside the others
 pub record Needed : Type 0 where

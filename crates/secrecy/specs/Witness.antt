@@ -8,7 +8,7 @@ use lib.IntN.{ℤ, pos, negsuc}
 use Rattle.rules.specs.declared.Settings.{Settings}
 use Rattle.rules.specs.Clicks.{Desk, Play}
 use Rattle.rules.specs.Calls.{freshDesk}
-use Rattle.secrecy.specs.Demand.{game, lastDesk}
+use Rattle.secrecy.specs.Demand.{Seen, game, lastDesk}
 
 -- one row in mode 0, question marks off
 abbrev pub line : ℕ → Settings
@@ -64,6 +64,11 @@ onwardEvents = 0 ∷ 0 ∷ 0 ∷ 8 ∷ 1 ∷ 5 ∷ 1 ∷ 0 ∷ 0 ∷ 8 ∷ 0 ∷
 unfoldable pub heard : List Play → List ℕ
 heard [] = []
 heard (o ∷ os) = o .answer ∷ heard os
+
+-- the sums of opened cells beside them
+unfoldable pub sums : List Seen → List ℕ
+sums [] = []
+sums (x ∷ xs) = x .opened ∷ sums xs
 
 -- the desk that a game ends with
 abbrev pub end : Settings → List ℕ → List ℤ → Desk

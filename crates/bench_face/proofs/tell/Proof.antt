@@ -8,10 +8,10 @@ use Rattle.bench_face.proofs.tell.Statement.{statement}
 use Rattle.bench_face.proofs.tell.Tie as tie
 
 abbrev Inv-loop : tie.InvT-loop
-Inv-loop counts₀ all i₀ counts i = (i ≤ 9) × (length counts ≡ length counts₀)
+Inv-loop opened counts₀ all i₀ counts i = (i ≤ 10) × (length counts ≡ length counts₀)
 
 abbrev μ-loop : tie.MeasureT-loop
-μ-loop counts₀ all i₀ counts i = 9 - i
+μ-loop opened counts₀ all i₀ counts i = 10 - i
 
 returns : tie.Need-returns Inv-loop μ-loop
 returns c = search needs

@@ -107,8 +107,8 @@ returns-4 c = let a = (c .before .before .before .before .before .before .before
     let o = c .before .before .before .before .before .before .before .before .play-event .ensures in
     let k = c .before .before .before .before .before .before .before .before .before .before .before .before .before .before .before .before .before .before .refusal-of .ensures (a .bits .now) in
     let s = o .outcome ∙ sym (step-decoded _ (a .code) (a .row) (a .column) (a .p) _ _ _ (c .before .before .before .before .before .before .before .before .before .before .before .before .before .before .before .before .before .before .before .before .before .before .before .before .decode .ensures) _ (c .before .before .before .before .before .before .before .before .before .before .before .before .before .before .before .before .before .before .before .before .before .before .x .given .1) ∙ resolved-played (a .mines .now) (a .code) _ (a .p) (a .shown .now) (a .bits .now) (c .before .before .before .before .before .before .before .before .before .before .before .before .before .before .before .before .before .before .before .before .resolve-at .result) (c .before .before .before .before .before .before .before .before .before .before .before .before .before .before .before .before .before .before .before .before .resolve-at .ensures _ _) _ k (c .before .before .before .before .before .before .before .before .before .before .before .before .before .before .before .before .before .if2 .left) _ (c .before .before .before .before .before .before .before .before .before .before .before .before .with-middle .ensures)) in
-    step-done _ (a .code) (a .row) (a .column) (a .p) _ _ _ _ (c .before .before .before .before .before .before .before .before .before .before .before .before .before .before .before .before .before .before .before .before .before .before .before .before .before .before .before .lent-refusal .ensures) _ _ _ _ _ _ (c .before .before .before .before .before .before .before .before .before .before .before .before .before .before .before .before .before .before .before .before .before .before .before .before .before .before .if1 .left) s (played-small _ (c .before .before .before .before .before .before .before .before .before .before .before .before .before .before .before .before .before .before .before .before .resolve-at .result .event) (desk (c .before .before .before .before .before .before .before .before .before .before .before .before .with-middle .result) (a .shown .now) (a .bits .now)) _ _ (o .outcome)) (o .same ∙ c .before .before .before .before .before .before .before .before .before .before .before .before .before .before .before .blank .ensures .cleared)
-    (settings-kept _ (a .code) (a .row) (a .column) (a .p) _ _ _ _ _ _ (lent-kept _ d _ _ (c .before .before .before .before .before .before .before .before .before .before .before .before .before .before .before .before .before .before .before .before .before .before .before .before .before .before .before .lent-refusal .ensures) (c .before .before .before .before .before .before .before .before .before .before .before .before .before .before .before .before .before .before .before .before .before .before .before .before .before .before .if1 .left)) s) (c .answer3 .ensures)
+    step-done _ (a .code) (a .row) (a .column) (a .p) _ _ _ _ (c .before .before .before .before .before .before .before .before .before .before .before .before .before .before .before .before .before .before .before .before .before .before .before .before .before .before .before .lent-refusal .ensures) _ _ _ _ _ _ _ (c .before .before .before .before .before .before .before .before .before .before .before .before .before .before .before .before .before .before .before .before .before .before .before .before .before .before .if1 .left) s (played-small _ (c .before .before .before .before .before .before .before .before .before .before .before .before .before .before .before .before .before .before .before .before .resolve-at .result .event) (desk (c .before .before .before .before .before .before .before .before .before .before .before .before .with-middle .result) (a .shown .now) (a .bits .now)) _ _ (o .outcome)) (o .same ∙ c .before .before .before .before .before .before .before .before .before .before .before .before .before .before .before .blank .ensures .cleared)
+    (settings-kept _ (a .code) (a .row) (a .column) (a .p) _ _ _ _ _ _ (lent-kept _ d _ _ (c .before .before .before .before .before .before .before .before .before .before .before .before .before .before .before .before .before .before .before .before .before .before .before .before .before .before .before .lent-refusal .ensures) (c .before .before .before .before .before .before .before .before .before .before .before .before .before .before .before .before .before .before .before .before .before .before .before .before .before .before .if1 .left)) s) (o .opened) (c .answer3 .ensures)
 
 pub step-spec : {M : Type 1} → statement M
 step-spec =

@@ -56,7 +56,7 @@ same-length : tie.Need-same-length
 same-length c = search needs
 
 returns-4 : tie.Need-returns-4
-returns-4 c = λ bits. let a = c .before .before .before .before .before .before .before .before .before .before .before .before .before .before .before .before .before .before .before .args in c .before .before .left-number .ensures bits ∙ lr-left _ (a .row) (a .column) _ (a .p) (c .before .before .before .before .before .before .before .before .before .before .before .before .before .before .before .cell .ensures) _ _ (c .before .before .before .before .moved .ensures) _ (c .before .before .before .before .before .before .before .before .before .before .before .before .before .before .before .before .before .mouse-number .ensures) (let z = c .before .before .before .before .before .before .before .before .before .before .before .before .before .before .before .before .if1 .left in omega arith) bits
+returns-4 c = λ bits. let a = c .before .before .before .before .before .before .before .before .before .before .before .before .before .before .before .before .before .before .before .args in (c .before .before .left-number .ensures .0 bits ∙ lr-left _ (a .row) (a .column) _ (a .p) (c .before .before .before .before .before .before .before .before .before .before .before .before .before .before .before .cell .ensures) _ _ (c .before .before .before .before .moved .ensures) _ (c .before .before .before .before .before .before .before .before .before .before .before .before .before .before .before .before .before .mouse-number .ensures) (let z = c .before .before .before .before .before .before .before .before .before .before .before .before .before .before .before .before .if1 .left in omega arith) bits, c .before .before .left-number .ensures .1)
 
 pub release-left-spec : {M : Type 1} → statement M
 release-left-spec =

@@ -44,7 +44,7 @@ same-length : tie.Need-same-length
 same-length c = search needs
 
 returns-2 : tie.Need-returns-2
-returns-2 c = λ bits. record { outcome = c .before .before .left-number .ensures bits; same = refl }
+returns-2 c = let n = c .before .before .left-number .ensures in λ bits. record { outcome = n .0 bits; same = refl; opened = n .1 }
 
 add-left-requires-2 : tie.Need-add-left-requires-2
 add-left-requires-2 c κs = search needs

@@ -1,8 +1,9 @@
 -- `left_number`: the number is shown, the win tested, and the counts added.
-use mathlib.Core.Path.{_∙_, sym}
+use mathlib.Core.Path.{_∙_, sym, ap}
+use Rattle.rules.specs.declared.Played.{Played}
 use native.Mathlib.Omega.{arith}
 use lib.ListN.{length-set}
-use Rattle.clicks.proofs.Steps.{added-room, number-done}
+use Rattle.clicks.proofs.Steps.{added-room, number-done, number-ticked}
 use borrow.Author.Needs.{needs}
 use Rattle.clicks.proofs.left_number.Statement.{statement}
 use Rattle.clicks.proofs.left_number.Tie as tie
@@ -26,7 +27,9 @@ same-length : tie.Need-same-length
 same-length c = search needs
 
 returns : tie.Need-returns
-returns c = number-done _ _ _ _ _ _ (c .before .before .before .before .before .before .pre .0) _ _ (c .before .before .add-left .ensures) (c .before .left-counts .ensures) _ (c .before .before .before .is-win-near .ensures) _ (c .end-safe .ensures)
+returns c =
+    let h = c .before .before .before .before .before .before .pre .0 in
+    (number-done _ _ _ _ _ _ (c .before .before .before .before .before .before .pre .0) _ _ (c .before .before .add-left .ensures) (c .before .left-counts .ensures) _ (c .before .before .before .is-win-near .ensures) _ (c .end-safe .ensures), number-ticked _ (c .before .before .before .before .before .before .args .p) _ _ _ _ h _ (ap (λ (x : Played). x .opened) (c .end-safe .ensures)))
 
 pub left-number-spec : {M : Type 1} → statement M
 left-number-spec =

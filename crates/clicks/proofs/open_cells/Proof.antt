@@ -26,7 +26,9 @@ same-length-2 : tie.Need-same-length-2
 same-length-2 c = search needs
 
 returns : tie.Need-returns
-returns c = opened-ends _ _ _ _ _ _ _ _ _ _ (c .before .before .before .before .before .before .before .refresh-board .ensures .outcome) (c .end-opening .ensures) (c .before .before .before .before .before .before .before .refresh-board .ensures .same)
+returns c =
+    let o = c .before .before .before .before .before .before .before .refresh-board .ensures in
+    opened-ends _ _ _ _ _ _ _ _ _ _ (o .0 .outcome) (c .end-opening .ensures .0) (o .0 .same) (o .1) (c .end-opening .ensures .1)
 
 pub open-cells-spec : {M : Type 1} → statement M
 open-cells-spec =

@@ -1,6 +1,8 @@
 -- `opening::refresh_board` meets its contract, from those of its parts. Assumes nothing.
 use Rattle.opening.proofs.Refresh.{roomy-start, work-asks, refreshed-hit, refreshed-safe}
+use native.Mathlib.Omega.{arith}
 use borrow.Author.Needs.{needs}
+use Rattle.opening.proofs.Ticking.{ticked-room, ticked-then, ticked-crossed}
 use Rattle.opening.proofs.refresh_board.Statement.{statement}
 use Rattle.opening.proofs.refresh_board.Tie as tie
 
@@ -13,7 +15,8 @@ work-off-requires : tie.Need-work-off-requires
 work-off-requires c κs =
     let pre = c .before .before .before .before .before .before .before .before .before .before .before .before .pre in
     let moved = c .before .before .before .before .before .before .touch-given in
-    work-asks _ _ _ _ _ _ _ _ _ _ _ (pre .0) (pre .1 .0) (moved .ensures) (moved .kept .1 .1 .0)
+    let asks = work-asks _ _ _ _ _ _ _ _ _ _ _ (pre .0) (pre .1 .0) (moved .ensures .0) (moved .kept .1 .1 .0) in
+    (asks .0, (asks .1 .0, (asks .1 .1 .0, (asks .1 .1 .1, ticked-room (moved .ensures .1) (omega arith)))))
 
 cross-flags-requires : tie.Need-cross-flags-requires
 cross-flags-requires c κs = search needs
@@ -31,7 +34,7 @@ returns c =
     let worked = c .before .before .before .before .before .before .before .before .before .work-off in
     let if1 = c .before .before .before .before .if1 in
     let flags = c .before .before .cross-flags in
-    refreshed-hit _ _ _ _ _ _ _ _ _ _ _ (pre .0) (pre .1 .0) (moved .ensures) (moved .kept .1 .1 .0) _ _ _ (worked .ensures) (worked .kept .1 .1 .0) _ (if1 .taken) (flags .ensures)
+    (refreshed-hit _ _ _ _ _ _ _ _ _ _ _ (pre .0) (pre .1 .0) (moved .ensures .0) (moved .kept .1 .1 .0) _ _ _ (worked .ensures .0) (worked .kept .1 .1 .0) _ (if1 .taken) (flags .ensures), ticked-crossed _ (ticked-then (moved .ensures .1) (worked .ensures .1)) (flags .ensures))
 
 same-length-3 : tie.Need-same-length-3
 same-length-3 c = search needs
@@ -44,7 +47,7 @@ returns-2 c =
     let pre = c .before .before .before .before .before .before .before .before .before .before .before .before .before .before .before .before .before .before .pre in
     let moved = c .before .before .before .before .before .before .before .before .before .before .before .before .touch-given in
     let worked = c .before .before .before .before .before .work-off in
-    refreshed-safe _ _ _ _ _ _ _ _ _ _ _ (pre .0) (pre .1 .0) (moved .ensures) (moved .kept .1 .1 .0) _ _ _ (worked .ensures) (worked .kept .1 .1 .0) (c .if1 .left)
+    (refreshed-safe _ _ _ _ _ _ _ _ _ _ _ (pre .0) (pre .1 .0) (moved .ensures .0) (moved .kept .1 .1 .0) _ _ _ (worked .ensures .0) (worked .kept .1 .1 .0) (c .if1 .left), ticked-then (moved .ensures .1) (worked .ensures .1))
 
 pub refresh-board-spec : {M : Type 1} → statement M
 refresh-board-spec =

@@ -34,7 +34,7 @@ rem-touch-around c = search needs
 touch-around-requires : tie.Need-touch-around-requires
 touch-around-requires c κs =
     let pre = c .before .before .before .before .before .before .pre in
-    (seated-popped _ _ _ _ _ _ (pre .0), on-grid _ _ _ (pre .0 .sized .column) (pre .1 .1))
+    (seated-popped _ _ _ _ _ _ (pre .0), (on-grid _ _ _ (pre .0 .sized .column) (pre .1 .1 .0), pre .1 .1 .1))
 
 same-length : tie.Need-same-length
 same-length c = search needs
@@ -47,7 +47,7 @@ same-length-2 c =
 returns : tie.Need-returns
 returns c =
     let moved = c .before .before .before .before .touch-around in
-    around-back _ _ _ _ _ _ _ _ _ _ _ (moved .ensures)
+    (around-back _ _ _ _ _ _ _ _ _ _ _ (moved .ensures .0), moved .ensures .1)
 
 pub spread-top-spec : {M : Type 1} → statement M
 spread-top-spec =

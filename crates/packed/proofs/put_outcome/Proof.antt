@@ -1,4 +1,5 @@
--- `packed::put_outcome` meets its contract: the answer, its place and its position, the cells, the bits and the line's end, one after the other.
+-- `packed::put_outcome` meets its contract: the answer, its place, its value and its position, the cells, the bits and the line's end, one after
+-- the other.
 use Rattle.writing.proofs.Putting.{room-first, room-second, put-then}
 use Rattle.packed.proofs.Telling.{outcome-room, outcome-told}
 use borrow.Author.Needs.{needs}
