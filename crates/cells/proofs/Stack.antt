@@ -25,9 +25,6 @@ grown-on w t n m k st w′ r st′ w″ r′ st″ g h l e =
       most = omega (arith, g .most, h .most);
     }
 
-pub grown-as : (w : List ℕ) (t n : ℕ) (st w′ : List ℕ) (r : ℕ) (st″ : List ℕ) → Grown w t n st w′ r → st ≡ st″ → Grown w t n st″ w′ r
-grown-as w t n st w′ r st″ g e = record { stack = g .stack ∙ e; frame = g .frame; up = g .up; most = g .most }
-
 -- a cell is pushed, or none
 pub grown-push : (w : List ℕ) (t q : ℕ) (b : Bool) → b ≡ true → t < length w → Grown w t 1 (pushIf b q (stackOf w t)) (set w t q) (t + 1)
 grown-push w t q b e h =

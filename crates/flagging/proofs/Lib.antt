@@ -1,5 +1,7 @@
 pub mod Signed
-pub mod Grows
+pub mod Ripeness
 pub mod Flagging
 pub mod OneScan
-pub mod Room
+pub mod Scan
+pub mod Takes
+pub mod AsFound

@@ -5,28 +5,23 @@ use mathlib.Core.List.{List, [], _∷_}
 use mathlib.Core.Logic.{⊎-elim}
 use Prim.Native.Nat.{ℕ, zero, suc, _+_, _*_, _<_, _≤_}
 use native.Mathlib.Omega.{arith}
-use borrow.Author.Tests.{eqb-true, eqb-false, le-leb, leb-true, ltb-true, ltb-false}
-use lib.Dec.{eqb, leb, ltb}
-use lib.ListN.{length, getD}
-use lib.Seq.{getD-set-same, getD-set-other, ext-getD}
+use borrow.Author.Tests.{eqb-true, eqb-false}
+use lib.Dec.{eqb}
+use lib.ListN.{getD}
+use lib.Seq.{getD-set-same, getD-set-other}
 use lib.IntN.{ℤ}
 use Rattle.rules.specs.declared.Settings.{Settings}
-use Rattle.rules.specs.Words.{pick, bit, rounds, stackOf}
+use Rattle.rules.specs.Words.{pick, bit, rounds}
 use Rattle.rules.specs.Grid.{neighbour, around, pushed}
 use Rattle.rules.specs.Opening.{closedAt}
 use Rattle.rules.specs.Clicks.{Desk, flagAt, rowsOf, columnsOf, cellsOf}
 use Rattle.rules.specs.Passes.{ripeAt, listed, flagOne, flagAll, Round, flagRound, foundAny, flagPass}
-use Rattle.cells.proofs.Words.{and-left, and-right, count-mono, count-zero, pick-both, false-unless}
-use Rattle.cells.specs.Ground.{Valued, Below}
+use Rattle.cells.proofs.Words.{count-mono, count-zero, pick-both, false-unless}
 use Rattle.opening.specs.Changed.{In}
 use Rattle.opening.proofs.Lists.{count-sum, in-pushed, neighbour-pushed}
 use Rattle.opening.proofs.Cases.{closed-in}
-use Rattle.cells.specs.Stack.{Grown}
-use Rattle.cells.specs.Contracts.{Prepared, Leaves}
-use Rattle.flagging.specs.Listing.{Flaggable, Flags}
-use Rattle.flagging.proofs.Grows.{listed-below}
-use Rattle.flagging.proofs.Signed.{all-closed-true, all-closed-yes}
 use Rattle.flagging.proofs.Flagging.{flag-yes, flag-no, even-all}
+use Rattle.flagging.proofs.Ripeness.{ripe-parts, ripe-made}
 
 -- what flags do to a cell: it shows the same, or 11 where it showed 10
 pub data Turned (x y : ℕ) : Type 0 where
@@ -43,11 +38,11 @@ turned-sum : (x y : ℕ) → Turned x y → bit (eqb y 11) + bit (eqb y 10) ≡ 
 turned-sum x y (same e) = rw e
 turned-sum x y (flag e h) = rw (e, h)
 
-turned-closed : (x y : ℕ) → Turned x y → eqb y 10 ≡ true → eqb x 10 ≡ true
+pub turned-closed : (x y : ℕ) → Turned x y → eqb y 10 ≡ true → eqb x 10 ≡ true
 turned-closed x y (same e) h = rw e at h
 turned-closed x y (flag e h) d = rw e
 
-abbrev Turns : List ℕ → List ℕ → Type 0
+abbrev pub Turns : List ℕ → List ℕ → Type 0
 Turns s s′ = (q : ℕ) → Turned (getD s q 0) (getD s′ q 0)
 
 module _ (B : List ℤ) where
@@ -60,7 +55,7 @@ module _ (B : List ℤ) where
       go true false e h = rw (flag-yes B c d e) (same (getD-set-other (d .shown) c q 11 0 (eqb-false q c h)))
       go false b e h = rw (flag-no B c d e) (same refl)
 
-  turns-all : (st : List ℕ) (d : Desk) → Turns (d .shown) (flagAll B st d .shown)
+  pub turns-all : (st : List ℕ) (d : Desk) → Turns (d .shown) (flagAll B st d .shown)
   unfolding flagAll
   turns-all [] d q = same refl
   turns-all (x ∷ st) d q =
@@ -99,27 +94,8 @@ module _ (R C : ℕ) where
       go false true x y rec = absurd (false≢true (sym x ∙ (rw (eqb-true c n y) at r)))
       go false false x y rec = rec (let m = eqb-false c n y in omega arith)
 
-  -- a ripe cell, in plain numbers
-  pub record Ripe (s : List ℕ) (c : ℕ) : Type 0 where
-    pub low : 1 ≤ getD s c 0
-    pub high : getD s c 0 ≤ 8
-    pub some : around R C (flagAt s) c < getD s c 0
-    pub sum : getD s c 0 ≡ around R C (flagAt s) c + around R C (closedAt s) c
-
-  pub ripe-parts : (s : List ℕ) (c : ℕ) → ripeAt R C s c ≡ true → Ripe s c
-  unfolding ripeAt
-  ripe-parts s c e =
-      let a = and-right (leb 1 (getD s c 0)) _ e in
-      let b = all-closed-true (getD s c 0) (around R C (flagAt s) c) (around R C (closedAt s) c) (and-right (leb (getD s c 0) 8) _ a) in
-      record { low = leb-true _ _ (and-left (leb 1 (getD s c 0)) _ e); high = leb-true _ _ (and-left (leb (getD s c 0) 8) _ a); some = b .0; sum = b .1 }
-
-  ripe-made : (s : List ℕ) (c : ℕ) → Ripe s c → ripeAt R C s c ≡ true
-  unfolding ripeAt
-  ripe-made s c r =
-      rw (le-leb _ _ (r .low), le-leb _ _ (r .high)) (all-closed-yes (getD s c 0) (around R C (flagAt s) c) (around R C (closedAt s) c) (r .some) (r .sum))
-
   -- around a number, flags and closed cells together stay as many, and no more are closed
-  around-turns : (s s′ : List ℕ) → Turns s s′ → (c : ℕ)
+  pub around-turns : (s s′ : List ℕ) → Turns s s′ → (c : ℕ)
       → (around R C (flagAt s′) c + around R C (closedAt s′) c ≡ around R C (flagAt s) c + around R C (closedAt s) c) × (around R C (closedAt s′) c ≤ around R C (closedAt s) c)
   unfolding around
   around-turns s s′ t c = (
@@ -127,6 +103,23 @@ module _ (R C : ℕ) where
         (λ k h. turned-sum _ _ (t (neighbour R C c k))),
     count-mono (λ k. closedAt s′ (neighbour R C c k)) (λ k. closedAt s (neighbour R C c k)) 8 (λ k h. turned-closed _ _ (t (neighbour R C c k))),
   )
+
+  module _ (s s′ : List ℕ) (t : Turns s s′) (c : ℕ) where
+    pub same-unless-flagged : (getD s c 0 ≡ 10 → getD s′ c 0 ≡ 11 → ⊥) → getD s′ c 0 ≡ getD s c 0
+    same-unless-flagged h = go (t c)
+      where
+        go : Turned (getD s c 0) (getD s′ c 0) → getD s′ c 0 ≡ getD s c 0
+        go (same e) = e
+        go (flag e f) = absurd (h e f)
+
+    -- a number that is ripe among the flags was ripe before them
+    pub ripe-before : ripeAt R C s′ c ≡ true → ripeAt R C s c ≡ true
+    ripe-before e =
+        let r = ripe-parts R C s′ c e in
+        let v = same-unless-flagged (λ x y. omega (arith, r .high)) in
+        let m = around-turns s s′ t c in
+        ripe-made R C s c
+        (record { low = omega (arith, r .low); high = omega (arith, r .high); some = omega (arith, r .some, r .sum, m .0, m .1); sum = omega (arith, r .sum, m .0) })
 
 module _ (B : List ℤ) (R C : ℕ) (d : Desk) (cells : ℕ) where
   abbrev once : List ℕ
@@ -143,20 +136,18 @@ module _ (B : List ℤ) (R C : ℕ) (d : Desk) (cells : ℕ) where
           false-unless (closedAt once (neighbour R C c k))
           (λ y. false≢true (sym e ∙ turned-closed _ _ (turns-all B (listed R C (d .shown) cells) d (neighbour R C c k)) y))
 
-  -- one that is ripe now was ripe before
-  never : (c : ℕ) → c < cells → Ripe R C once c → Turned (getD (d .shown) c 0) (getD once c 0) → ⊥
-  never c h r (flag e f) = omega (arith, r .high)
-  never c h r (same e) =
-      let m = around-turns R C (d .shown) once (turns-all B (listed R C (d .shown) cells) d) c in
-      let g = gone c h (ripe-made R C (d .shown) c
-      (record { low = omega (arith, r .low); high = omega (arith, r .high); some = omega (arith, r .some, r .sum, m .0, m .1); sum = omega (arith, r .sum, m .0) })) in
-      omega (arith, r .some, r .sum)
+  -- none is ripe any more: it would have been ripe before
+  never : (c : ℕ) → c < cells → ripeAt R C once c ≡ true → ⊥
+  never c h r =
+      let g = gone c h (ripe-before R C (d .shown) once (turns-all B (listed R C (d .shown) cells) d) c r) in
+      let p = ripe-parts R C once c r in
+      omega (arith, p .some, p .sum)
 
   second : (n : ℕ) → n ≤ cells → listed R C once n ≡ []
   unfolding listed
   second zero h = refl
   second (suc n) h =
-      rw (false-unless (ripeAt R C once n) (λ e. never n (omega arith) (ripe-parts R C once n e) (turns-all B (listed R C (d .shown) cells) d n))) (second n (omega arith))
+      rw (false-unless (ripeAt R C once n) (never n (omega arith))) (second n (omega arith))
 
   -- LAW: a scan after the flags of a scan lists nothing
   pub second-none : listed R C once cells ≡ []
@@ -190,31 +181,3 @@ module _ (B : List ℤ) where
   pub flag-pass-once : (d : Desk) → flagPass B d ≡ flagAll B (found d) d
   unfolding flagPass flagRound
   flag-pass-once d = rounds-desk (cellsOf d) (record { desk = d; any = true })
-
--- ---- the code's pass ---------------------------------------------------------------------------------------------------------------------
-
-module _ (B : List ℤ) (d : Desk) (w w₁ : List ℕ) (n : ℕ) (p : Prepared B d w) (g : Grown w 0 (7 * cellsOf d + 8) (found B d) w₁ n) (l : length w₁ ≡ length w) where
-  -- what flagging the list asks
-  pub pass-asks : Valued B × (Flaggable (length B) d × ((n ≤ length w₁) × Below (length B) (stackOf w₁ n)))
-  pass-asks =
-      let f = p .laid .fits in
-      let m : length (d .shown) ≡ length B = f .board ∙ sym (f .mined .long) in
-      let b : Below (length (d .shown)) (stackOf w₁ n) = rw (g .stack) (listed-below (rowsOf d) (columnsOf d) (d .shown) (cellsOf d)) in (
-        f .mined .valued,
-        (
-          record { board = m; bytes = let k = p .bytes in omega (arith, f .mined .long); flags = p .room .flag },
-          (omega (arith, g .most, f .room, l), rw m at b),
-        ),
-      )
-
-  -- the list made and cleared again leaves the work as it was
-  pub pass-leaves : (d′ : Desk) (w₂ : List ℕ) → Flags d′ (flagAll B (stackOf w₁ n) d) n w₁ w₂ → length w₂ ≡ length w₁ → Leaves d′ (flagPass B d) w w₂
-  pass-leaves d′ w₂ f h =
-      record {
-        outcome = f .outcome ∙ ap (λ (st : List ℕ). flagAll B st d) (g .stack) ∙ sym (flag-pass-once B d);
-        same = ext-getD 0 w₂ w (h ∙ l) (λ i lt. go i (ltb i n) refl);
-      }
-    where
-      go : (i : ℕ) (b : Bool) → ltb i n ≡ b → getD w₂ i 0 ≡ getD w i 0
-      go i true e = let k = ltb-true _ _ e in f .clear i k ∙ sym (p .laid .zeros i (omega (arith, g .most)))
-      go i false e = let k = ltb-false _ _ e in f .rest i k ∙ g .frame i k

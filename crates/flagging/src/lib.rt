@@ -1,19 +1,15 @@
-// The flag pass over lent slices: one scan lists the closed neighbours of the ripe cells in work, and after it they are flagged.
-// The contracts cite rules' Passes; specs/ has what the parts require and ensure.
+// The flag pass over lent boards: one scan in row order flags the closed neighbours of each ripe cell as it comes to it.
+// The contracts cite rules' Passes; specs/ has the scan, and what its parts require and ensure.
 ghost use mathlib.Core.Path.{_≡_};
 ghost use Prim.Native.Nat.{_+_, _*_, _<_, _≤_};
 ghost use lib.ListN.{length};
-ghost use Rattle.rules.specs.Words.{stackOf};
 ghost use Rattle.rules.specs.States.{withFlag};
-ghost use Rattle.rules.specs.Grid.{cellOf, pushIf, pushed};
-ghost use Rattle.rules.specs.Lent.{workRoom};
-ghost use Rattle.rules.specs.Opening.{closedAt};
+ghost use Rattle.rules.specs.Grid.{cellOf};
 ghost use Rattle.rules.specs.Clicks.{desk};
-ghost use Rattle.rules.specs.Passes.{remainder, allClosed, ripeAt, listed, flagOne, flagAll, flagPass};
-ghost use Rattle.cells.specs.Ground.{Sized, Valued, Below};
-ghost use Rattle.cells.specs.Contracts.{Prepared, Leaves};
-ghost use Rattle.cells.specs.Stack.{Grown};
-ghost use Rattle.flagging.specs.Listing.{Flaggable, Flags};
+ghost use Rattle.rules.specs.Passes.{remainder, allClosed, ripeAt, flagOne, flagPass};
+ghost use Rattle.cells.specs.Ground.{Sized, Valued};
+ghost use Rattle.cells.specs.Contracts.{closedIn};
+ghost use Rattle.flagging.specs.Scan.{flagAround, flagBeside, flagRow, flagRows, Flaggable, Flags};
 use rules::Position;
 
 // What is left of a number after its flags: signed.
@@ -57,167 +53,121 @@ fn ripe(shown: &[u8], rows: usize, columns: usize, row: usize, column: usize) ->
     all_closed(v, seen.flags, seen.closed)
 }
 
-// Lists q if it is closed.
-fn list_closed(shown: &[u8], work: &mut [u16], q: usize, top: usize) -> usize
-    requires { ⌜ length (now shown) ≤ 2048 ⌝ }
-    requires { ⌜ top < length (now work) ⌝ }
-    ensures { λ r. ⌜ Grown (now (work .entry)) top 1 (pushIf (closedAt (now (shown .entry)) q) q (stackOf (now (work .entry)) top)) (now (work .exit)) r ⌝ }
+// A cell that shows 10 is flagged, and counted.
+fn flag_one(mines: &[i8], shown: &mut [u8], bits: &mut [u8], q: usize, past: u32) -> u32
+    requires { ⌜ Valued (now mines) ⌝ }
+    requires { ⌜ length (now shown) ≡ length (now mines) ⌝ }
+    requires { ⌜ length (now mines) ≤ 8 * length (now bits) ⌝ }
+    requires { ⌜ past + closedIn (now shown) ≤ 2048 ⌝ }
+    ensures { λ r. ⌜ Flags (flagOne (now (mines .entry)) q) past (now (shown .entry)) (now (bits .entry)) r (now (shown .exit)) (now (bits .exit)) ⌝ }
 {
     if shown.len() <= q {
-        return top;
+        return past;
     }
     if shown[q] == 10 {
-        work[top] = q as u16;
-        return top + 1;
+        shown[q] = 11;
+        marking::mark_mine(mines, bits, q);
+        return past + 1;
     }
-    top
+    past
 }
 
-// Lists the closed neighbours of a cell.
-fn list_around(
-    shown: &[u8],
-    work: &mut [u16],
+// Flags the closed neighbours of a cell, and counts them.
+fn flag_around(
+    mines: &[i8],
+    shown: &mut [u8],
+    bits: &mut [u8],
     rows: usize,
     columns: usize,
     row: usize,
     column: usize,
-    top: usize,
-) -> usize
-    requires { ⌜ Sized rows columns ⌝ }
+) -> u32
+    requires { ⌜ Flaggable (now mines) (now shown) (now bits) rows columns ⌝ }
     requires { ⌜ (row < rows) × (column < columns) ⌝ }
-    requires { ⌜ length (now shown) ≡ rows * columns ⌝ }
-    requires { ⌜ top + 8 ≤ length (now work) ⌝ }
-    ensures { λ r. ⌜ Grown (now (work .entry)) top 8 (pushed rows columns (closedAt (now (shown .entry))) (cellOf columns row column) 8 (stackOf (now (work .entry)) top)) (now (work .exit)) r ⌝ }
+    ensures { λ r. ⌜ Flags (flagAround (now (mines .entry)) rows columns (cellOf columns row column) 8) 0 (now (shown .entry)) (now (bits .entry)) r (now (shown .exit)) (now (bits .exit)) ⌝ }
 {
-    let mut t = top;
+    let mut n: u32 = 0;
     for k in 0..8 {
         let q = cells::neighbour_at(rows, columns, row, column, k);
-        t = list_closed(shown, work, q, t);
+        n = flag_one(mines, shown, bits, q, n);
     }
-    t
+    n
 }
 
-// Lists the closed neighbours of a ripe cell.
-fn list_at(
-    shown: &[u8],
-    work: &mut [u16],
+// Flags the closed neighbours of a ripe cell: both its counts are read before the first flag.
+fn flag_beside(
+    mines: &[i8],
+    shown: &mut [u8],
+    bits: &mut [u8],
     rows: usize,
     columns: usize,
     row: usize,
     column: usize,
-    top: usize,
-) -> usize
-    requires { ⌜ Sized rows columns ⌝ }
+    past: u32,
+) -> u32
+    requires { ⌜ Flaggable (now mines) (now shown) (now bits) rows columns ⌝ }
     requires { ⌜ (row < rows) × (column < columns) ⌝ }
-    requires { ⌜ length (now shown) ≡ rows * columns ⌝ }
-    requires { ⌜ top + 8 ≤ length (now work) ⌝ }
-    requires { ⌜ stackOf (now work) top ≡ listed rows columns (now shown) (cellOf columns row column) ⌝ }
-    ensures { λ r. ⌜ Grown (now (work .entry)) top 8 (listed rows columns (now (shown .entry)) (cellOf columns row column + 1)) (now (work .exit)) r ⌝ }
+    requires { ⌜ past + closedIn (now shown) ≤ 2048 ⌝ }
+    ensures { λ r. ⌜ Flags (flagBeside (now (mines .entry)) rows columns (cellOf columns row column)) past (now (shown .entry)) (now (bits .entry)) r (now (shown .exit)) (now (bits .exit)) ⌝ }
 {
     if ripe(shown, rows, columns, row, column) {
-        return list_around(shown, work, rows, columns, row, column, top);
+        let n = flag_around(mines, shown, bits, rows, columns, row, column);
+        return past + n;
     }
-    top
+    past
 }
 
 // One row of the scan.
-fn list_row(
-    shown: &[u8],
-    work: &mut [u16],
+fn flag_row(
+    mines: &[i8],
+    shown: &mut [u8],
+    bits: &mut [u8],
     rows: usize,
     columns: usize,
     row: usize,
-    top: usize,
-) -> usize
-    requires { ⌜ Sized rows columns ⌝ }
+    past: u32,
+) -> u32
+    requires { ⌜ Flaggable (now mines) (now shown) (now bits) rows columns ⌝ }
     requires { ⌜ row < rows ⌝ }
-    requires { ⌜ length (now shown) ≡ rows * columns ⌝ }
-    requires { ⌜ top + 8 * columns ≤ length (now work) ⌝ }
-    requires { ⌜ stackOf (now work) top ≡ listed rows columns (now shown) (row * columns) ⌝ }
-    ensures { λ r. ⌜ Grown (now (work .entry)) top (8 * columns) (listed rows columns (now (shown .entry)) (row * columns + columns)) (now (work .exit)) r ⌝ }
+    requires { ⌜ past + closedIn (now shown) ≤ 2048 ⌝ }
+    ensures { λ r. ⌜ Flags (flagRow (now (mines .entry)) rows columns row columns) past (now (shown .entry)) (now (bits .entry)) r (now (shown .exit)) (now (bits .exit)) ⌝ }
 {
-    let mut t = top;
+    let mut n = past;
     for column in 0..columns {
-        t = list_at(shown, work, rows, columns, row, column, t);
+        n = flag_beside(mines, shown, bits, rows, columns, row, column, n);
     }
-    t
+    n
 }
 
-// The scan: lists the closed neighbours of the ripe cells.
-fn list_cells(shown: &[u8], work: &mut [u16], rows: usize, columns: usize) -> usize
-    requires { ⌜ Sized rows columns ⌝ }
-    requires { ⌜ length (now shown) ≡ rows * columns ⌝ }
-    requires { ⌜ workRoom (rows * columns) ≤ length (now work) ⌝ }
-    ensures { λ r. ⌜ Grown (now (work .entry)) 0 (7 * (rows * columns) + 8) (listed rows columns (now (shown .entry)) (rows * columns)) (now (work .exit)) r ⌝ }
+// The scan, and how many cells it flagged.
+fn flag_rows(mines: &[i8], shown: &mut [u8], bits: &mut [u8], rows: usize, columns: usize) -> u32
+    requires { ⌜ Flaggable (now mines) (now shown) (now bits) rows columns ⌝ }
+    ensures { λ r. ⌜ Flags (flagRows (now (mines .entry)) rows columns rows) 0 (now (shown .entry)) (now (bits .entry)) r (now (shown .exit)) (now (bits .exit)) ⌝ }
 {
-    let mut top = 0;
+    let mut n: u32 = 0;
     for row in 0..rows {
-        top = list_row(shown, work, rows, columns, row, top);
+        n = flag_row(mines, shown, bits, rows, columns, row, n);
     }
-    top
+    n
 }
 
-// One flag more, and no other count.
-fn add_flag(p: Position) -> Position
-    requires { ⌜ p .counts .flag < 65535 ⌝ }
-    ensures { λ r. ⌜ r ≡ withFlag p (p .counts .flag + 1) ⌝ }
+// So many flags more, and no other count.
+fn add_flags(p: Position, new: u32) -> Position
+    requires { ⌜ p .counts .flag + new ≤ 65535 ⌝ }
+    ensures { λ r. ⌜ r ≡ withFlag p (p .counts .flag + new) ⌝ }
 {
-    let n = p.counts.flag + 1;
+    let n = p.counts.flag + new;
     p.with_flag(n)
 }
 
-// A cell that still shows 10 is flagged.
-fn flag_one(p: Position, mines: &[i8], shown: &mut [u8], bits: &mut [u8], cell: usize) -> Position
-    requires { ⌜ Valued (now mines) ⌝ }
-    requires { ⌜ cell < length (now mines) ⌝ }
-    requires { ⌜ Flaggable (length (now mines)) (desk p (now shown) (now bits)) ⌝ }
-    ensures { λ r. ⌜ desk r (now (shown .exit)) (now (bits .exit)) ≡ flagOne (now (mines .entry)) cell (desk p (now (shown .entry)) (now (bits .entry))) ⌝ }
-{
-    if shown[cell] == 10 {
-        shown[cell] = 11;
-        marking::mark_mine(mines, bits, cell);
-        return add_flag(p);
-    }
-    p
-}
-
-// Flags the listed cells, the first listed first, and clears the list.
-fn flag_listed(
-    p: Position,
-    mines: &[i8],
-    shown: &mut [u8],
-    bits: &mut [u8],
-    work: &mut [u16],
-    n: usize,
-) -> Position
-    requires { ⌜ Valued (now mines) ⌝ }
-    requires { ⌜ Flaggable (length (now mines)) (desk p (now shown) (now bits)) ⌝ }
-    requires { ⌜ n ≤ length (now work) ⌝ }
-    requires { ⌜ Below (length (now mines)) (stackOf (now work) n) ⌝ }
-    ensures { λ r. ⌜ Flags (desk r (now (shown .exit)) (now (bits .exit))) (flagAll (now (mines .entry)) (stackOf (now (work .entry)) n) (desk p (now (shown .entry)) (now (bits .entry)))) n (now (work .entry)) (now (work .exit)) ⌝ }
-{
-    let mut q = p;
-    for k in 0..n {
-        let cell = work[k] as usize;
-        work[k] = 0;
-        q = flag_one(q, mines, shown, bits, cell);
-    }
-    q
-}
-
-// The flag pass: one scan, and after it all that it listed is flagged. A second scan would list nothing (proofs/OneScan.antt).
-pub fn flag_pass(
-    p: Position,
-    mines: &[i8],
-    shown: &mut [u8],
-    bits: &mut [u8],
-    work: &mut [u16],
-) -> Position
-    requires { ⌜ Prepared (now mines) (desk p (now shown) (now bits)) (now work) ⌝ }
-    ensures { λ r. ⌜ Leaves (desk r (now (shown .exit)) (now (bits .exit))) (flagPass (now (mines .entry)) (desk p (now (shown .entry)) (now (bits .entry)))) (now (work .entry)) (now (work .exit)) ⌝ }
+// The flag pass: one scan (a second would find nothing: proofs/OneScan.antt), and its flags go into the position once.
+pub fn flag_pass(p: Position, mines: &[i8], shown: &mut [u8], bits: &mut [u8]) -> Position
+    requires { ⌜ Flaggable (now mines) (now shown) (now bits) (p .settings .rows) (p .settings .columns) ⌝ }
+    requires { ⌜ p .counts .flag + closedIn (now shown) ≤ 65535 ⌝ }
+    ensures { λ r. ⌜ desk r (now (shown .exit)) (now (bits .exit)) ≡ flagPass (now (mines .entry)) (desk p (now (shown .entry)) (now (bits .entry))) ⌝ }
 {
     let rows = p.settings.rows as usize;
     let columns = p.settings.columns as usize;
-    let n = list_cells(shown, work, rows, columns);
-    flag_listed(p, mines, shown, bits, work, n)
+    let new = flag_rows(mines, shown, bits, rows, columns);
+    add_flags(p, new)
 }

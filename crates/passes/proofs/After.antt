@@ -10,7 +10,7 @@ use Rattle.rules.specs.Clicks.{Desk, desk}
 use Rattle.rules.specs.Passes.{Scan, flagPass, chordPass, bothPass, modeBoth, modeFlag, modeChord, passesAfterFlag, passesAfterChord}
 use Rattle.chording.specs.declared.Scanned.{Scanned}
 use Rattle.chording.specs.Scanning.{Scans}
-use Rattle.cells.specs.Contracts.{Ticked, Leaves}
+use Rattle.cells.specs.Contracts.{Ticked}
 use Rattle.opening.proofs.Ticking.{ticked-none}
 use Rattle.passes.specs.declared.Ran.{Ran}
 use Rattle.passes.specs.Passing.{Runs}
@@ -61,9 +61,9 @@ runs-by h e = record { outcome = h .outcome ∙ sym e; same = h .same; opened = 
 
 module _ (B : List ℤ) (p : Position) (shown bits w : List ℕ) where
   -- the flag pass opens nothing
-  pub runs-flag : (q : Position) (shown′ bits′ w′ : List ℕ) (r : Ran) → Leaves (desk q shown′ bits′) (flagPass B (desk p shown bits)) w w′ → r ≡ record { position = q; opened = 0 }
-      → Runs (flagPass B) p shown bits w r shown′ bits′ w′
-  runs-flag q shown′ bits′ w′ r l h = rw h (record { outcome = l .outcome; same = l .same; opened = flag-ticked B (desk p shown bits) (desk q shown′ bits′) l })
+  pub runs-flag : (q : Position) (shown′ bits′ : List ℕ) (r : Ran) → desk q shown′ bits′ ≡ flagPass B (desk p shown bits) → r ≡ record { position = q; opened = 0 }
+      → Runs (flagPass B) p shown bits w r shown′ bits′ w
+  runs-flag q shown′ bits′ r l h = rw h (record { outcome = l; same = refl; opened = flag-ticked B (desk p shown bits) (desk q shown′ bits′) l })
 
   pub runs-scan : (s : Scanned) (shown′ w′ : List ℕ) → Scans (λ b. chordPass B (desk p shown b)) w s shown′ w′ × Ticked 0 shown (s .opened) shown′
       → Runs (λ d. chordPass B d .desk) p shown bits w (record { position = s .position; opened = s .opened }) shown′ bits w′

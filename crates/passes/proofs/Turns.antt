@@ -21,6 +21,7 @@ use Rattle.chording.specs.declared.Scanned.{Scanned}
 use Rattle.passes.specs.declared.Passed.{Passed}
 use Rattle.chording.specs.Scanning.{Scans}
 use Rattle.passes.specs.Passing.{round, going, Runs}
+use Rattle.flagging.specs.Scan.{Flaggable}
 use Rattle.flagging.proofs.Flagging.{Even, even-all}
 use Rattle.flagging.proofs.OneScan.{found, flag-pass-once}
 use Rattle.chording.proofs.Chording.{Sits, sits-start, laid-on, spent-pass}
@@ -41,8 +42,8 @@ pub even-pass : (B : List ℤ) (d : Desk) → Even B d (flagPass B d)
 even-pass B d = subst⁻¹ (λ (x : Desk). Even B d x) (flag-pass-once B d) (even-all B (found B d) d)
 
 -- and no cell opens
-pub flag-ticked : (B : List ℤ) (d d₁ : Desk) {w w₁ : List ℕ} → Leaves d₁ (flagPass B d) w w₁ → Ticked 0 (d .shown) 0 (d₁ .shown)
-flag-ticked B d d₁ f = subst⁻¹ (λ (x : Desk). Ticked 0 (d .shown) 0 (x .shown)) (f .outcome) (record { counted = omega (arith, even-pass B d .opens) })
+pub flag-ticked : (B : List ℤ) (d d₁ : Desk) → d₁ ≡ flagPass B d → Ticked 0 (d .shown) 0 (d₁ .shown)
+flag-ticked B d d₁ f = subst⁻¹ (λ (x : Desk). Ticked 0 (d .shown) 0 (x .shown)) f (record { counted = omega (arith, even-pass B d .opens) })
 
 -- a desk of the same settings with as many bytes of bits
 pub record Like (st : Settings) (n : ℕ) (d : Desk) : Type 0 where
@@ -94,25 +95,30 @@ module _ (B : List ℤ) (v : Valued B) (st : Settings) (n : ℕ) where
       let m = even-pass B (r .desk) .few in
       omega arith
 
+-- the boards that a pass asks for are those that the flag pass asks for, which is lent no work
+pub prepared-flaggable : (B : List ℤ) (d : Desk) (w : List ℕ) → Prepared B d w
+    → Flaggable B (d .shown) (d .bits) (d .position .settings .rows) (d .position .settings .columns) × (d .position .counts .flag + closedIn (d .shown) ≤ 65535)
+prepared-flaggable B d w p = (record { mined = p .laid .fits .mined; board = p .laid .fits .board; bytes = p .bytes }, p .room .flag)
+
 -- the code's turn, from its passes
-module _ (B : List ℤ) (d d₁ : Desk) (w w₁ : List ℕ) (p : Prepared B d w) (f : Leaves d₁ (flagPass B d) w w₁) where
-  pub turn-asks : LaidAt B (d₁ .position) (d₁ .shown) w₁ × PassRoomAt (d₁ .position) (d₁ .shown)
+module _ (B : List ℤ) (d d₁ : Desk) (w : List ℕ) (p : Prepared B d w) (f : d₁ ≡ flagPass B d) where
+  pub turn-asks : LaidAt B (d₁ .position) (d₁ .shown) w × PassRoomAt (d₁ .position) (d₁ .shown)
   turn-asks =
       let l : Like (d .position .settings) (length (d .bits)) d₁ =
-      subst⁻¹ (λ (x : Desk). Like (d .position .settings) (length (d .bits)) x) (f .outcome) (flag-like B (d .position .settings) (length (d .bits)) d (like-start B d w p)) in
-      let q = like-prepared B d d₁ w w₁ p l (f .same) in
+      subst⁻¹ (λ (x : Desk). Like (d .position .settings) (length (d .bits)) x) f (flag-like B (d .position .settings) (length (d .bits)) d (like-start B d w p)) in
+      let q = like-prepared B d d₁ w w p l refl in
       (q .laid, q .room)
 
-  pub turn-is : (s : Scanned) (shown w₂ : List ℕ) (r : Passed) → Scans (λ bits. chordPass B (desk (d₁ .position) (d₁ .shown) bits)) w₁ s shown w₂ × Ticked 0 (d₁ .shown) (s .opened) shown
+  pub turn-is : (s : Scanned) (shown w′ : List ℕ) (r : Passed) → Scans (λ bits. chordPass B (desk (d₁ .position) (d₁ .shown) bits)) w s shown w′ × Ticked 0 (d₁ .shown) (s .opened) shown
       → r .position ≡ s .position → r .any ≡ (s .ever && isPlaying (s .position .game)) → r .opened ≡ s .opened
-      → Leaves (round r shown (d₁ .bits)) (bothRound B (going d)) w w₂ × Ticked 0 (d .shown) (r .opened) shown
+      → Leaves (round r shown (d₁ .bits)) (bothRound B (going d)) w w′ × Ticked 0 (d .shown) (r .opened) shown
   unfolding bothRound
-  turn-is s shown w₂ r c q e n = (
+  turn-is s shown w′ r c q e n = (
     record {
       outcome =
           ap₂ (λ (x : Position) (b : Bool). turned (desk x shown (d₁ .bits)) b) q e ∙ ap chordChanged (c .0 (d₁ .bits) .outcome)
-          ∙ ap (λ (x : Desk). chordChanged (chordPass B x)) (f .outcome);
-      same = c .0 (d₁ .bits) .same ∙ f .same;
+          ∙ ap (λ (x : Desk). chordChanged (chordPass B x)) f;
+      same = c .0 (d₁ .bits) .same;
     },
     rw n (ticked-then (flag-ticked B d d₁ f) (c .1)),
   )

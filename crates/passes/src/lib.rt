@@ -33,7 +33,7 @@ fn both_round(
     requires { ⌜ Prepared (now mines) (desk p (now shown) (now bits)) (now work) ⌝ }
     ensures { λ r. ⌜ Leaves (round r (now (shown .exit)) (now (bits .exit))) (bothRound (now (mines .entry)) (going (desk p (now (shown .entry)) (now (bits .entry))))) (now (work .entry)) (now (work .exit)) × Ticked 0 (now (shown .entry)) (r .opened) (now (shown .exit)) ⌝ }
 {
-    let q = flagging::flag_pass(p, mines, shown, bits, work);
+    let q = flagging::flag_pass(p, mines, shown, bits);
     let s = chording::chord_pass(q, mines, shown, work);
     let any = chording::goes_on(s.ever, s.position);
     let position = s.position;
@@ -110,7 +110,7 @@ pub fn passes_after_flag(
         return both_pass(p, mines, shown, bits, work);
     }
     if one_of(mode, 12, 15) {
-        let q = flagging::flag_pass(p, mines, shown, bits, work);
+        let q = flagging::flag_pass(p, mines, shown, bits);
         return shut(q);
     }
     shut(p)

@@ -4,7 +4,7 @@ use borrow.Author.Needs.{needs}
 use Rattle.rules.specs.Grid.{cellOf}
 use Rattle.rules.specs.Clicks.{flagAt}
 use Rattle.cells.proofs.Grid.{cell-lt, around-le}
-use Rattle.flagging.proofs.Grows.{ripe-low, ripe-high, ripe-is}
+use Rattle.flagging.proofs.Ripeness.{ripe-low, ripe-high, ripe-is}
 use Rattle.flagging.proofs.ripe.Statement.{statement}
 use Rattle.flagging.proofs.ripe.Tie as tie
 

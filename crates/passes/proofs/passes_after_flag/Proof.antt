@@ -1,6 +1,7 @@
 -- `passes::passes_after_flag` meets its contract: at each return the tests say which pass followed.
 use mathlib.Core.Path.{sym, _∙_}
 use borrow.Author.Tests.{not-true, not-false}
+use Rattle.passes.proofs.Turns.{prepared-flaggable}
 use Rattle.passes.proofs.After.{flag-over, flag-both, flag-alone, flag-none, runs-none, runs-by, runs-flag}
 use Rattle.passes.proofs.passes_after_flag.Statement.{statement}
 use Rattle.passes.proofs.passes_after_flag.Tie as tie
@@ -36,22 +37,19 @@ one-of-requires-2 : tie.Need-one-of-requires-2
 one-of-requires-2 c κs = tt
 
 flag-pass-requires : tie.Need-flag-pass-requires
-flag-pass-requires c κs = (c .before .before .before .before .before .before .before .before .before .before .before .before .pre)
+flag-pass-requires c κs = prepared-flaggable _ _ _ (c .before .before .before .before .before .before .before .before .before .before .before .pre)
 
 shut-requires-2 : tie.Need-shut-requires-2
 shut-requires-2 c κs = tt
 
 same-length-4 : tie.Need-same-length-4
-same-length-4 c = c .before .before .before .before .before .before .before .flag-pass .kept .1 .1 .0
+same-length-4 c = c .before .before .before .before .before .flag-pass .kept .1 .1 .0
 
 same-length-5 : tie.Need-same-length-5
-same-length-5 c = c .before .before .before .before .before .before .before .flag-pass .kept .1 .1 .1 .0
-
-same-length-6 : tie.Need-same-length-6
-same-length-6 c = c .before .before .before .before .before .before .before .flag-pass .kept .1 .1 .1 .1 .0
+same-length-5 c = c .before .before .before .before .before .flag-pass .kept .1 .1 .1 .0
 
 returns-3 : tie.Need-returns-3
-returns-3 c = runs-by (runs-flag _ _ _ _ _ _ _ _ _ _ (c .before .before .before .before .before .before .before .flag-pass .ensures) (c .shut2 .ensures)) (flag-alone _ _ (sym (c .before .before .before .before .before .before .before .before .before .before .before .before .before .before .before .before .playing .ensures) ∙ not-false _ (c .before .before .before .before .before .before .before .before .before .before .before .before .before .before .before .if1 .left)) (sym (c .before .before .before .before .before .before .before .before .before .before .before .before .before .before .one-of .ensures) ∙ c .before .before .before .before .before .before .before .before .before .before .before .before .before .if2 .left) (sym (c .before .before .before .before .before .before .before .before .before .before .before .before .one-of2 .ensures) ∙ c .before .before .before .before .before .before .before .before .before .before .before .if3 .taken))
+returns-3 c = runs-by (runs-flag _ _ _ _ _ _ _ _ _ (c .before .before .before .before .before .flag-pass .ensures) (c .shut2 .ensures)) (flag-alone _ _ (sym (c .before .before .before .before .before .before .before .before .before .before .before .before .before .playing .ensures) ∙ not-false _ (c .before .before .before .before .before .before .before .before .before .before .before .before .if1 .left)) (sym (c .before .before .before .before .before .before .before .before .before .before .before .one-of .ensures) ∙ c .before .before .before .before .before .before .before .before .before .before .if2 .left) (sym (c .before .before .before .before .before .before .before .before .before .one-of2 .ensures) ∙ c .before .before .before .before .before .before .before .before .if3 .taken))
 
 shut-requires-3 : tie.Need-shut-requires-3
 shut-requires-3 c κs = tt
@@ -77,7 +75,6 @@ passes-after-flag-spec =
     shut-requires-2
     same-length-4
     same-length-5
-    same-length-6
     returns-3
     shut-requires-3
     returns-4)
