@@ -134,6 +134,8 @@ static void lost(void)
     p = a.position;
     expect("the game", p.game, LM_LOSS);
     expect("solved by chords", p.solved_chord, 1);
+    lm_answer left = lm_left_to_solve(p, MINES(p), SHOWN(p), BITS(p), WORK(p));
+    expect("left to solve, for the 0 under the wrong flag", left.value, 1);
     print_shown(p);
     expect_shown(p, wanted);
 }

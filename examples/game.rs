@@ -75,7 +75,7 @@ fn lost() -> Result<(), Refusal> {
     assert_eq!(view.game, GameState::Loss);
     assert_eq!(view.shown, [0, 0, 0, 0, 1, 1, 14, 1, 15]);
     display(view);
-    assert_eq!(game.over().map(|o| (o.won, o.solved_chord)), Some((false, 1)));
+    assert_eq!(game.over().map(|o| (o.won, o.solved_chord, o.total_3bv, o.left_to_solve)), Some((false, 1, 1, 1)));
     Ok(())
 }
 

@@ -138,7 +138,7 @@ typedef struct lm_position {
     /* Secrets, that know hidden mines: to be shown after the game only. */
     uint32_t rce;          /* flags by hand on a mine that had none before */
     uint32_t solved_left;  /* 3BV solved by left clicks */
-    uint32_t solved_chord; /* 3BV solved by chords */
+    uint32_t solved_chord; /* 3BV solved by chords; with solved_left it may pass the total */
 } lm_position;
 
 /* A number, its place, the position after the call, and the value: how many cells a step opened, or what was asked for; 0 where there is none or
@@ -226,7 +226,8 @@ lm_value lm_check_position(lm_position position, const int8_t *mines, size_t min
 lm_answer lm_get_bbbv_solved(lm_position position, const int8_t *mines, size_t mines_length, const uint8_t *shown, size_t shown_length,
                              const uint8_t *bits, size_t bits_length);
 
-/* The 3BV left to solve, the total minus both solved counts or 0, as the value: 20 to 264, or 0. A secret. */
+/* The 3BV left to solve, openings with at least one 0 cell not open plus numbers without a 0 neighbour not open, as the value: 20 to 264,
+ * or 0. It is counted from the board, whatever the solved counts say; in Win it is 0. A secret. */
 lm_answer lm_left_to_solve(lm_position position, const int8_t *mines, size_t mines_length, const uint8_t *shown, size_t shown_length,
                            const uint8_t *bits, size_t bits_length, uint16_t *work, size_t work_length);
 

@@ -1,4 +1,4 @@
-// What document 01 says of boards before any game: sizes, modes, numbering, and the 3BV total.
+// What the papers say of boards beside the game: sizes, modes, numbering, the 3BV total, and what is left to solve of it.
 
 pub const LARGEST_SIDE: usize = 64;
 pub const MOST_CELLS: usize = 2048;
@@ -39,39 +39,49 @@ pub fn numbered(rows: usize, columns: usize, mines: &[(usize, usize)]) -> Rows {
 
 /// 3BV total: openings plus numbers without a 0 neighbour.
 pub fn total(board: &Rows) -> usize {
-    openings(board) + lone_numbers(board)
+    openings(board).len() + lone_numbers(board).count()
 }
 
-fn lone_numbers(board: &Rows) -> usize {
+/// Left to solve: openings with at least one 0 cell not open, plus numbers without a 0 neighbour not open. Open cells show 0 to 8.
+pub fn left_to_solve(board: &Rows, shown: &Rows) -> usize {
+    let not_open = |&(row, column): &(usize, usize)| !(0..=8).contains(&shown[row][column]);
+    let openings = openings(board).iter().filter(|zeros| zeros.iter().any(not_open)).count();
+    openings + lone_numbers(board).filter(not_open).count()
+}
+
+fn lone_numbers(board: &Rows) -> impl Iterator<Item = (usize, usize)> + '_ {
     let (rows, columns) = (board.len(), board[0].len());
-    let lone = |cell| neighbours(rows, columns, cell).all(|(i, j)| board[i][j] != 0);
-    cells(board).filter(|&(row, column)| board[row][column] > 0 && lone((row, column))).count()
+    let lone = move |cell| neighbours(rows, columns, cell).all(|(i, j)| board[i][j] != 0);
+    cells(board).filter(move |&(row, column)| board[row][column] > 0 && lone((row, column)))
 }
 
-fn openings(board: &Rows) -> usize {
+/// The 0 cells of each opening.
+fn openings(board: &Rows) -> Vec<Vec<(usize, usize)>> {
     let mut seen = vec![vec![false; board[0].len()]; board.len()];
-    let mut count = 0;
+    let mut openings = Vec::new();
     for (row, column) in cells(board) {
         if board[row][column] == 0 && !seen[row][column] {
-            count += 1;
-            flood(board, &mut seen, (row, column));
+            openings.push(flood(board, &mut seen, (row, column)));
         }
     }
-    count
+    openings
 }
 
-/// Marks the 0 cells joined to this one over eight neighbours.
-fn flood(board: &Rows, seen: &mut [Vec<bool>], start: (usize, usize)) {
+/// The 0 cells joined to this one over eight neighbours, which are then seen.
+fn flood(board: &Rows, seen: &mut [Vec<bool>], start: (usize, usize)) -> Vec<(usize, usize)> {
     seen[start.0][start.1] = true;
-    let mut stack = vec![start];
-    while let Some(cell) = stack.pop() {
-        for (i, j) in neighbours(board.len(), board[0].len(), cell) {
+    let mut zeros = vec![start];
+    let mut next = 0;
+    while next < zeros.len() {
+        for (i, j) in neighbours(board.len(), board[0].len(), zeros[next]) {
             if board[i][j] == 0 && !seen[i][j] {
                 seen[i][j] = true;
-                stack.push((i, j));
+                zeros.push((i, j));
             }
         }
+        next += 1;
     }
+    zeros
 }
 
 fn cells(board: &Rows) -> impl Iterator<Item = (usize, usize)> {

@@ -1,6 +1,6 @@
-// The reference printout of a game book, byte for byte as document 01 has it.
+// The reference printout of a game book, byte for byte as document 01 has it, with left to solve as document 02 (Req 04) has it.
 
-use crate::board::total;
+use crate::board::{left_to_solve, total};
 use crate::book::{self, Book};
 use crate::game::Game;
 use std::fmt::Write;
@@ -40,13 +40,14 @@ fn events(out: &mut String, game: &mut Game, records: &[u8]) {
 
 fn counts(out: &mut String, game: &Game) {
     let b = &game.board;
+    assert_eq!(b.get_bbbv_solved(), b.bbbv_solved_left + b.bbbv_solved_chord); // the Rust's own sum
     let counts = [b.left, b.right, b.double, b.lce, b.rce, b.dce, b.flag, b.bbbv_solved_left, b.bbbv_solved_chord];
     line(out, format_args!("counts {}", spaced(&counts)));
 }
 
 fn bv(out: &mut String, game: &Game) {
-    let total = total(&game.board.board);
-    line(out, format_args!("bv {} {}", total, total.saturating_sub(game.board.get_bbbv_solved())));
+    let b = &game.board;
+    line(out, format_args!("bv {} {}", total(&b.board), left_to_solve(&b.board, &b.game_board)));
 }
 
 fn shown(out: &mut String, game: &Game) {

@@ -21,7 +21,7 @@ use Rattle.rules.specs.Words.{pick, unless}
 use Rattle.rules.specs.States.{freshOf, withGame}
 use Rattle.rules.specs.Board.{faultOf, numberingRefusal}
 use Rattle.rules.specs.Lent.{workAfter}
-use Rattle.rules.specs.Judging.{total3bv, leftToSolve}
+use Rattle.rules.specs.Judging.{leftToSolve}
 use Rattle.rules.specs.Clicks.{Desk, Play, desk, done}
 use Rattle.rules.specs.Step.{eventRefusal, plainOf, refusalAt, playAt, stepAt, stepBy, stepOn, pointerOf}
 use Rattle.rules.specs.Calls.{Outcome, outcome, SetUp, Totalled, Asked, Numbered, cellsIn, answers, refuses, checks, setUp, refused, refusedAt, accepted, openedIn, played, setupBy, setupRefusal, setupOf, resetOf, totalRefusal, totalOf, numberingOf, positionCheck, lentRefusal, flowRefusal, stepOf, flowOf, gameStateOf, bbbvSolvedOf, leftToSolveOf}
@@ -224,8 +224,7 @@ module _ (p : Position) (B : List ℤ) (shown bits : List ℕ) where
       out : Bool → Asked
       out b =
           pick b
-          (asks (answers 0 p (leftToSolve (total3bv B (p .settings .rows) (p .settings .columns)) (p .secrets .«solved_left») (p .secrets .«solved_chord»)))
-          (workAfter (cellsIn (p .settings)) work))
+          (asks (answers 0 p (leftToSolve B (p .settings .rows) (p .settings .columns) shown)) (workAfter (cellsIn (p .settings)) work))
           (asks (refuses B p (lentRefusal B (desk p shown bits) work)) work)
 
       go : (b : Bool) → (out b .answer .number ≡ 0 → ⊥) → out b ≡ asks (refuses B p (out b .answer .number)) work

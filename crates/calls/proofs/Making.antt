@@ -1,7 +1,7 @@
--- What the calls make: the total counted on cleared work, a fresh desk, and one equation for each answer.
+-- What the calls make: left to solve and the total counted on cleared work, a fresh desk, and one equation for each answer.
 use mathlib.Core.Path.{_≡_, ap, ap₂, sym, _∙_}
-use mathlib.Core.List.{List, _++_}
-use Prim.Native.Nat.{ℕ, _+_, _-_, _*_, _<_, _≤_}
+use mathlib.Core.List.{List, [], _++_}
+use Prim.Native.Nat.{ℕ, _+_, _*_, _<_, _≤_}
 use native.Mathlib.Omega.{arith}
 use borrow.Author.Tests.{eq-eqb, ne-eqb, le-leb, lt-leb}
 use lib.ListN.{drop, replicate}
@@ -14,18 +14,19 @@ use Rattle.rules.specs.declared.Place.the-variants.{Nowhere}
 use Rattle.rules.specs.declared.GameState.the-variants.{Loss}
 use Rattle.rules.specs.States.{freshOf, withGame}
 use Rattle.rules.specs.Lent.{workRoom, workAfter}
-use Rattle.rules.specs.Judging.{total3bv}
+use Rattle.rules.specs.Judging.{leftToSolve}
 use Rattle.rules.specs.Clicks.{Desk, desk}
 use Rattle.rules.specs.Calls.{SetUp, answers, refuses, checks, freshDesk, setUp, setupBy, setupRefusal, setupOf, resetOf, totalRefusal, totalOf, positionCheck, lentRefusal, gameStateOf, bbbvSolvedOf, leftToSolveOf}
 use Rattle.cells.specs.Ground.{Sized, Zeros}
 use Rattle.cells.proofs.Filling.{cleared-zeros}
 use Rattle.cells.specs.Contracts.{Leaves}
 use Rattle.boards.specs.Faults.{Placeable}
-use Rattle.judging.proofs.Judging.{total-cells}
+use Rattle.judging.proofs.Judging.{left-cells}
+use Rattle.judging.proofs.Solving.{left-none}
 use Rattle.rules.specs.Promises.{totals, asks}
-use Rattle.calls.specs.Parts.{TotalMade}
+use Rattle.calls.specs.Parts.{LeftMade}
 
--- ---- the total -------------------------------------------------------------------------------------------------------------------------
+-- ---- the count on cleared work -------------------------------------------------------------------------------------------------------
 
 -- rows and columns as the code widens them
 pub room-wide : {R C r c : ℕ} (l : ℕ) → r ≡ R → c ≡ C → workRoom (R * C) ≤ l → workRoom (r * c) ≤ l
@@ -38,25 +39,28 @@ module _ (B : List ℤ) {R C r c : ℕ} (er : r ≡ R) (ec : c ≡ C) (n : ℕ) 
   pub zeros-wide : Zeros (workRoom (r * c)) w₁
   zeros-wide = rw (sym room-is, e) (cleared-zeros (8 * n + 8) w)
 
-  total-wide : total3bv B r c ≡ total3bv B R C
-  total-wide = ap₂ (total3bv B) er ec
+  module _ (shown : List ℕ) (t : ℕ) (w₂ : List ℕ) (l : Leaves t (leftToSolve B r c shown) w₁ w₂) where
+    left-wide : t ≡ leftToSolve B R C shown
+    left-wide = l .outcome ∙ ap₂ (λ (x y : ℕ). leftToSolve B x y shown) er ec
 
-  pub total-small : (t : ℕ) (w₂ : List ℕ) → Leaves t (total3bv B r c) w₁ w₂ → Sized R C → t ≤ 2048
-  total-small t w₂ l s = let a = total-cells B R C in let b = l .outcome ∙ total-wide in let k = s .cells in omega arith
+    pub left-small : Sized R C → t ≤ 2048
+    left-small s = let a = left-cells B R C shown in let b = left-wide in let k = s .cells in omega arith
 
-  pub total-made : (t : ℕ) (w₂ : List ℕ) → Leaves t (total3bv B r c) w₁ w₂ → TotalMade B R C w t w₂
-  unfolding workAfter
-  total-made t w₂ l = record { total = l .outcome ∙ total-wide; cleared = l .same ∙ e ∙ ap (λ (k : ℕ). replicate (workRoom k) 0 ++ drop (workRoom k) w) en }
+    pub left-made : LeftMade B R C shown w t w₂
+    unfolding workAfter
+    left-made = record { left = left-wide; cleared = l .same ∙ e ∙ ap (λ (k : ℕ). replicate (workRoom k) 0 ++ drop (workRoom k) w) en }
+
+-- ---- the total -------------------------------------------------------------------------------------------------------------------------
 
 module _ (R C : ℕ) (B : List ℤ) (work : List ℕ) (n : ℕ) (e : n ≡ totalRefusal R C B work) where
   pub total-refused : (r : Value) → (n ≡ 0 → ⊥) → r ≡ checks R C B n → totals r work ≡ totalOf R C B work
   unfolding totalOf
   total-refused r h a = ap (λ (x : Value). totals x work) (a ∙ ap (checks R C B) e) ∙ simp (ne-eqb _ _ (λ q. h (e ∙ q)))
 
-  pub total-answered : (t : ℕ) (work′ : List ℕ) → n ≡ 0 → TotalMade B R C work t work′ → totals (record { number = 0; place = Nowhere; value = t }) work′ ≡ totalOf R C B work
+  pub total-answered : (t : ℕ) (work′ : List ℕ) → n ≡ 0 → LeftMade B R C [] work t work′ → totals (record { number = 0; place = Nowhere; value = t }) work′ ≡ totalOf R C B work
   unfolding totalOf
   total-answered t work′ z m =
-      ap₂ (λ (v : ℕ) (x : List ℕ). totals (record { number = 0; place = Nowhere; value = v }) x) (m .total) (m .cleared) ∙ simp (eq-eqb _ _ (sym e ∙ z))
+      ap₂ (λ (v : ℕ) (x : List ℕ). totals (record { number = 0; place = Nowhere; value = v }) x) (m .left ∙ left-none B R C) (m .cleared) ∙ simp (eq-eqb _ _ (sym e ∙ z))
 
 -- ---- setup -----------------------------------------------------------------------------------------------------------------------------
 
@@ -116,8 +120,7 @@ module _ (B : List ℤ) (d : Desk) (work : List ℕ) (n : ℕ) (e : n ≡ lentRe
   unfolding leftToSolveOf
   left-refused r h a = ap (λ (x : Answer). asks x work) (a ∙ ap (refuses B (d .position)) e) ∙ simp (ne-eqb _ _ (λ q. h (e ∙ q)))
 
-  pub left-answered : (r : Answer) (t b v : ℕ) (work′ : List ℕ) → n ≡ 0 → TotalMade B (d .position .settings .rows) (d .position .settings .columns) work t work′
-      → b ≡ d .position .secrets .«solved_left» + d .position .secrets .«solved_chord» → v ≡ t - b → r ≡ answers 0 (d .position) v → asks r work′ ≡ leftToSolveOf B d work
+  pub left-answered : (r : Answer) (v : ℕ) (work′ : List ℕ) → n ≡ 0 → LeftMade B (d .position .settings .rows) (d .position .settings .columns) (d .shown) work v work′
+      → r ≡ answers 0 (d .position) v → asks r work′ ≡ leftToSolveOf B d work
   unfolding leftToSolveOf
-  left-answered r t b v work′ z m h l a =
-      ap₂ asks (a ∙ ap (answers 0 (d .position)) (l ∙ ap₂ (λ (x y : ℕ). x - y) (m .total) h)) (m .cleared) ∙ simp (eq-eqb _ _ (sym e ∙ z))
+  left-answered r v work′ z m a = ap₂ asks (a ∙ ap (answers 0 (d .position)) (m .left)) (m .cleared) ∙ simp (eq-eqb _ _ (sym e ∙ z))

@@ -4,9 +4,9 @@ use mathlib.Core.List.{List}
 use Prim.Native.Nat.{ℕ, _*_}
 use lib.IntN.{ℤ}
 use Rattle.rules.specs.Lent.{workAfter}
-use Rattle.rules.specs.Judging.{total3bv}
+use Rattle.rules.specs.Judging.{leftToSolve}
 
--- the total was counted, and work w is cleared
-pub record TotalMade (B : List ℤ) (R C : ℕ) (w : List ℕ) (r : ℕ) (w′ : List ℕ) : Type 0 where
-  pub total : r ≡ total3bv B R C
+-- what is left to solve was counted, and work w is cleared
+pub record LeftMade (B : List ℤ) (R C : ℕ) (shown w : List ℕ) (r : ℕ) (w′ : List ℕ) : Type 0 where
+  pub left : r ≡ leftToSolve B R C shown
   pub cleared : w′ ≡ workAfter (R * C) w

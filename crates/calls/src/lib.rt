@@ -1,14 +1,14 @@
 // The public calls that play no event: the board's own, setup and reset, the checks, and what is counted. None has a `requires`: for every input
 // its contract, one equation of rules' Promises, determines the answer, the position, the value and every lent list.
 ghost use mathlib.Core.Path.{_≡_};
-ghost use Prim.Native.Nat.{_+_, _-_, _*_, _≤_};
+ghost use Prim.Native.Nat.{_+_, _*_, _≤_};
 ghost use lib.ListN.{length};
 ghost use Rattle.rules.specs.Lent.{bitBytes, workRoom};
 ghost use Rattle.rules.specs.Calls.{cellsIn, answers, setUp, setupBy};
 ghost use Rattle.cells.specs.Ground.{Mined};
 ghost use Rattle.boards.specs.Faults.{Placeable};
 ghost use Rattle.rules.specs.Promises.{CheckBoardIs, NumberMinesIs, Total3bvIs, SetupIs, ResetIs, CheckPositionIs, StepGameStateIs, BbbvSolvedIs, LeftToSolveIs};
-ghost use Rattle.calls.specs.Parts.{TotalMade};
+ghost use Rattle.calls.specs.Parts.{LeftMade};
 use rules::Answer;
 use rules::GameState;
 use rules::Place;
@@ -46,18 +46,20 @@ pub fn number_mines(rows: u8, columns: u8, list: &[u8], mines: &mut [i8]) -> u16
 }
 
 // Work comes in as it comes: it is cleared first, and the count gives it back so.
-fn total_on(rows: u8, columns: u8, mines: &[i8], work: &mut [u16]) -> u32
+fn left_on(rows: u8, columns: u8, mines: &[i8], shown: &[u8], work: &mut [u16]) -> u32
     requires { ⌜ Mined (now mines) rows columns ⌝ }
     requires { ⌜ workRoom (rows * columns) ≤ length (now work) ⌝ }
-    ensures { λ r. ⌜ TotalMade (now (mines .entry)) rows columns (now (work .entry)) r (now (work .exit)) ⌝ }
+    ensures { λ r. ⌜ LeftMade (now (mines .entry)) rows columns (now (shown .entry)) (now (work .entry)) r (now (work .exit)) ⌝ }
 {
     let cells = boards::cell_count(rows, columns);
     cells::clear(&mut *work, 8 * cells + 8);
-    let total = judging::total_3bv(mines, &mut *work, cells::wide(rows), cells::wide(columns));
-    total as u32
+    let r = cells::wide(rows);
+    let c = cells::wide(columns);
+    let left = judging::left_to_solve(mines, shown, &mut *work, r, c);
+    left as u32
 }
 
-// The 3BV total: 20 to 24.
+// The 3BV total, what is left to solve where nothing is shown: 20 to 24.
 pub fn total_3bv(rows: u8, columns: u8, mines: &[i8], work: &mut [u16]) -> Value
     ensures { λ r. ⌜ Total3bvIs rows columns (now (mines .entry)) (now (work .entry)) r (now (work .exit)) ⌝ }
 {
@@ -65,7 +67,8 @@ pub fn total_3bv(rows: u8, columns: u8, mines: &[i8], work: &mut [u16]) -> Value
     if n != 0 {
         return refusals::found(rows, columns, mines, n);
     }
-    let total = total_on(rows, columns, mines, &mut *work);
+    let none = [0u8; 0];
+    let total = left_on(rows, columns, mines, &none, &mut *work);
     Value {
         number: 0,
         place: Place::Nowhere,
@@ -157,17 +160,7 @@ pub fn get_bbbv_solved(p: Position, mines: &[i8], shown: &[u8], bits: &[u8]) -> 
     answer(0, p, both)
 }
 
-// a minus b, or 0 if that is negative.
-fn minus(a: u32, b: u32) -> u32
-    ensures { λ r. ⌜ r ≡ a - b ⌝ }
-{
-    if a < b {
-        return 0;
-    }
-    a - b
-}
-
-// The total minus both solved counts, or 0.
+// Openings with a 0 not open, plus numbers without a 0 neighbour not open: 20 to 264.
 pub fn left_to_solve(
     p: Position,
     mines: &[i8],
@@ -181,8 +174,12 @@ pub fn left_to_solve(
     if n != 0 {
         return refusals::refuse(n, p, mines);
     }
-    let total = total_on(p.settings.rows, p.settings.columns, mines, &mut *work);
-    let both = solved(p);
-    let left = minus(total, both);
+    let left = left_on(
+        p.settings.rows,
+        p.settings.columns,
+        mines,
+        shown,
+        &mut *work,
+    );
     answer(0, p, left)
 }

@@ -6,10 +6,10 @@ use Prim.Native.Nat.{ℕ, zero, suc, _+_, _-_, _*_, _/_, _%_, _<_, _≤_}
 use native.Mathlib.Nat.{div-add-mod', add-mul, mul-le-mul-right, div-lt-iff-lt-mul, mod-lt}
 use native.Mathlib.Omega.{arith}
 use lib.Arith.{digits-lt, digits-div, digits-mod}
-use borrow.Author.Tests.{leb-true, ltb-true, le-leb}
+use borrow.Author.Tests.{leb-true, leb-false, ltb-true, le-leb, lt-leb}
 use lib.Dec.{leb, ltb}
 use lib.ListN.{length}
-use Rattle.rules.specs.Words.{bit, count}
+use Rattle.rules.specs.Words.{pick, bit, count}
 use Rattle.rules.specs.Grid.{sizeOk, cellOf, ninth, cellBefore, neighbour, around, pushIf, pushed}
 use Rattle.cells.specs.Ground.{Sized, isInner, ringAt, ring, Below}
 use Rattle.cells.proofs.Words.{and-left, and-right, pick-le, count-same, count-turn, count-le}
@@ -119,6 +119,66 @@ around-turn R C row column p k q n m h e d f =
 pub around-done : (R C i : ℕ) (p : ℕ → Bool) (k n : ℕ) → k ≡ 8 → n ≡ count (λ j. p (neighbour R C i j)) k → n ≡ around R C p i
 unfolding around
 around-done R C i p k n e d = d ∙ ap (count (λ j. p (neighbour R C i j))) e
+
+-- ---- the way back --------------------------------------------------------------------------------------------------------------------------
+
+pub cellBefore-is : (R C r c : ℕ) → 1 ≤ r → r ≤ R → 1 ≤ c → c ≤ C → cellBefore R C r c ≡ cellOf C (r - 1) (c - 1)
+unfolding cellBefore
+cellBefore-is R C r c r1 rR c1 cC = simp (le-leb 1 r r1, le-leb r R rR, le-leb 1 c c1, le-leb c C cC)
+
+-- a neighbour that is a cell, by its row and column
+pub record Before (R C r c : ℕ) : Type 0 where
+  pub r1 : 1 ≤ r
+  pub rR : r ≤ R
+  pub c1 : 1 ≤ c
+  pub cC : c ≤ C
+
+pub cellBefore-on : (R C r c : ℕ) → cellBefore R C r c < R * C → Before R C r c
+unfolding cellBefore
+cellBefore-on R C r c h = go (leb 1 r && (leb r R && (leb 1 c && leb c C))) refl h
+  where
+    go : (t : Bool) → (leb 1 r && (leb r R && (leb 1 c && leb c C))) ≡ t → pick t (cellOf C (r - 1) (c - 1)) (R * C) < R * C → Before R C r c
+    go true e l =
+        let a = and-right (leb 1 r) _ e in
+        let b = and-right (leb r R) _ a in
+        record {
+          r1 = leb-true 1 r (and-left (leb 1 r) _ e);
+          rR = leb-true r R (and-left (leb r R) _ a);
+          c1 = leb-true 1 c (and-left (leb 1 c) _ b);
+          cC = leb-true c C (and-right (leb 1 c) _ b);
+        }
+    go false e l = absurd (omega arith)
+
+ninth-back : (k : ℕ) → k < 8 → ninth (7 - k) ≡ 8 - ninth k
+unfolding ninth
+ninth-back k h = go (leb 4 k) refl
+  where
+    go : (t : Bool) → leb 4 k ≡ t → pick (leb 4 (7 - k)) (7 - k + 1) (7 - k) ≡ 8 - pick t (k + 1) k
+    go true e = let f = leb-true 4 k e in rw (lt-leb 4 (7 - k) (omega arith)) (omega arith)
+    go false e = let f = leb-false 4 k e in rw (le-leb 4 (7 - k) (omega arith)) (omega arith)
+
+-- place 7 - k leads back
+pub neighbour-back : (R C i k : ℕ) → i < R * C → k < 8 → neighbour R C i k < R * C → neighbour R C (neighbour R C i k) (7 - k) ≡ i
+unfolding neighbour
+neighbour-back R C i k on lt h =
+    let j = ninth k in
+    let nine = ninth-le k in
+    let b = cellBefore-on R C (i / C + j / 3) (i % C + j % 3) h in
+    let r1 = b .r1 in
+    let rR = b .rR in
+    let c1 = b .c1 in
+    let cC = b .cC in
+    let g = on-grid R C i (omega arith) on in
+    let e = cellBefore-is R C (i / C + j / 3) (i % C + j % 3) r1 rR c1 cC in
+    let lc : i % C + j % 3 - 1 < C = omega arith in
+    let d : neighbour R C i k / C ≡ i / C + j / 3 - 1 = ap (λ (x : ℕ). x / C) e ∙ digits-div (i / C + j / 3 - 1) lc in
+    let m : neighbour R C i k % C ≡ i % C + j % 3 - 1 = ap (λ (x : ℕ). x % C) e ∙ digits-mod (i / C + j / 3 - 1) lc in
+    let n = ninth-back k lt in
+    let row : neighbour R C i k / C + ninth (7 - k) / 3 ≡ i / C + 1 = rw (d, n) (omega arith) in
+    let column : neighbour R C i k % C + ninth (7 - k) % 3 ≡ i % C + 1 = rw (m, n) (omega arith) in
+    let back = cellBefore-is R C (i / C + 1) (i % C + 1) (omega arith) (let l = g .0 in omega arith) (omega arith) (let l = g .1 in omega arith) in
+    let same : cellOf C (i / C + 1 - 1) (i % C + 1 - 1) ≡ cellOf C (i / C) (i % C) = ap₂ (cellOf C) (let z : i / C + 1 - 1 ≡ i / C = omega arith in z) (let z : i % C + 1 - 1 ≡ i % C = omega arith in z) in
+    ap₂ (cellBefore R C) row column ∙ back ∙ same ∙ cell-back C i
 
 -- ---- a cell with all its eight neighbours ------------------------------------------------------------------------------------------------
 

@@ -1,4 +1,4 @@
--- The stack of a walk never holds more than 7 × cells + 8, of a left click, of a chord and of the total.
+-- The stack of a walk never holds more than 7 × cells + 8, of a left click, of a chord, of left to solve and of the total.
 use mathlib.Core.Path.{_≡_}
 use mathlib.Core.Bool.{_&&_}
 use mathlib.Core.List.{List, [], _∷_}
@@ -34,7 +34,7 @@ module _ (B : List ℤ) (R C : ℕ) (shown : List ℕ) where
   pub left-room : (i : ℕ) → highestFrom B R C shown i (unmarked (R * C)) ≤ 7 * (R * C) + 8
   left-room i = walk-room i (unmarked (R * C)) (length-replicate (R * C) 0)
 
-  -- CHORD, and the total, whose cells are all of the board
+  -- CHORD, and left to solve and the total, whose cells are some or all of the board
   pub tally-room : (cells : List ℕ) → highestOf B R C shown cells ≤ 7 * (R * C) + 8
   unfolding highestOf
   tally-room [] = omega arith

@@ -1,5 +1,5 @@
 -- What judging counts: at most one for a safe cell and none for a mine, as an opening or as a lone number; and the marks keep their length.
-use mathlib.Core.Path.{_≡_, refl, ap, _∙_}
+use mathlib.Core.Path.{_≡_, refl, _∙_}
 use mathlib.Core.Bool.{Bool, true, false, _&&_, not}
 use mathlib.Core.List.{List, [], _∷_}
 use Prim.Native.Nat.{ℕ, zero, suc, _+_, _*_, _≤_}
@@ -8,10 +8,11 @@ use borrow.Author.Tests.{eq-eqb, ne-eqb, eqb-true, eqb-false}
 use lib.Dec.{eqb}
 use lib.ListN.{length, set, length-set, length-replicate}
 use lib.IntN.{ℤ}
-use Rattle.rules.specs.Words.{pick, bit, below}
+use Rattle.rules.specs.Words.{pick, bit}
+use Rattle.rules.specs.Grid.{pushIf, cellsIf}
 use Rattle.rules.specs.Board.{faceAt, loneAt}
 use Rattle.rules.specs.Opening.{turns}
-use Rattle.rules.specs.Judging.{freeAt, Kind, pass, stop, mark, kind, walk, walkFrom, Tally, counted, judgeOne, tally, openingsJudged, lones, total3bv}
+use Rattle.rules.specs.Judging.{freeAt, Kind, pass, stop, mark, kind, walk, walkFrom, Tally, counted, judgeOne, tally, openingsJudged, lones, bvOf, total3bv, notOpenAt, leftToSolve}
 use Rattle.judging.specs.Joining.{among, safeAt}
 use Rattle.cells.proofs.Words.{bit-le}
 use Rattle.lones.proofs.Lones.{lone-zero, lone-mine}
@@ -89,14 +90,27 @@ judged-lones-length B R C shown cells = omega (arith, judged-lones-safe B R C sh
 pub judged-length : (B : List ℤ) (R C : ℕ) (shown cells : List ℕ) → openingsJudged B R C shown cells ≤ length cells
 judged-length B R C shown cells = omega (arith, judged-lones-length B R C shown cells)
 
-pub length-below : (n : ℕ) → length (below n) ≡ n
-unfolding below
-length-below zero = refl
-length-below (suc n) = ap suc (length-below n)
+pub cells-length : (p : ℕ → Bool) (n : ℕ) → length (cellsIf p n) ≤ n
+unfolding cellsIf
+cells-length p zero = omega arith
+cells-length p (suc n) = go (p n) (cells-length p n)
+  where
+    go : (b : Bool) → length (cellsIf p n) ≤ n → length (pushIf b n (cellsIf p n)) ≤ suc n
+    go true h = omega arith
+    go false h = omega arith
+
+-- whatever the test is, at most one for a cell
+bv-cells : (B : List ℤ) (R C : ℕ) (due : ℕ → Bool) → bvOf B R C due ≤ R * C
+unfolding bvOf
+bv-cells B R C due = omega (arith, judged-lones-length B R C [] (cellsIf due (R * C)), cells-length due (R * C))
 
 pub total-cells : (B : List ℤ) (R C : ℕ) → total3bv B R C ≤ R * C
 unfolding total3bv
-total-cells B R C = omega (arith, judged-lones-length B R C [] (below (R * C)), length-below (R * C))
+total-cells B R C = bv-cells B R C (λ i. true)
+
+pub left-cells : (B : List ℤ) (R C : ℕ) (shown : List ℕ) → leftToSolve B R C shown ≤ R * C
+unfolding leftToSolve
+left-cells B R C shown = bv-cells B R C (notOpenAt shown)
 
 -- ---- the marks keep their length -----------------------------------------------------------------------------------------------------
 

@@ -5,6 +5,8 @@ pub mod Reach
 pub mod Highest
 pub mod RustSame
 pub mod Once
+pub mod Naming
+pub mod Solving
 pub mod Marks
 pub mod Walking
 pub mod Tallying

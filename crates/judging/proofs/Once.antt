@@ -1,21 +1,21 @@
--- The total counts each opening once: at its first cell in row order.
+-- Walks that are shown nothing, from whatever cells in whatever order, count each opening once: at its first cell.
 use mathlib.Core.Path.{_≡_, refl, ap, ap₂, sym, _∙_}
 use mathlib.Core.Bool.{Bool, true, false, true≢false}
 use mathlib.Core.List.{List, [], _∷_}
 use mathlib.Core.Logic.{_⊎_, inl, inr, ⊎-elim}
 use Prim.Native.Nat.{ℕ, zero, suc, _+_, _*_, _<_, _≤_}
 use native.Mathlib.Omega.{arith}
-use borrow.Author.Tests.{eqb-true, eqb-false}
-use lib.Dec.{eqb}
+use borrow.Author.Tests.{ltb-true, ltb-false, eqb-true, eqb-false}
+use lib.Dec.{ltb, eqb}
 use lib.ListN.{length, set, length-set, length-replicate}
 use lib.IntN.{ℤ}
-use Rattle.rules.specs.Words.{bit, below}
+use Rattle.rules.specs.Words.{bit}
 use Rattle.rules.specs.Grid.{neighbour}
 use Rattle.rules.specs.Board.{faceAt}
 use Rattle.rules.specs.Opening.{turns}
 use Rattle.rules.specs.Judging.{freeAt, Kind, pass, stop, mark, kind, walk, walkFrom, Tally, judgeOne, tally, openingsJudged}
-use Rattle.judging.specs.Joining.{Joined, here, next}
-use Rattle.judging.proofs.Lists.{In, pushed-all}
+use Rattle.judging.specs.Joining.{In, Nought, From, Joined, here, next}
+use Rattle.judging.proofs.Lists.{pushed-all}
 use Rattle.judging.proofs.Turns.{free-fact, free-other, free-kept, free-fresh, mark-means, walk-zero, walk-nil, walk-pass, walk-stop, walk-mark, free-le}
 use Rattle.judging.proofs.Judging.{judge-zero, judge-marked, judge-number, walk-long}
 use Rattle.judging.proofs.Reach.{walk-met, walk-done, Done, joined-marked}
@@ -59,140 +59,155 @@ module _ (B : List ℤ) (R C : ℕ) (shown : List ℕ) where
             which h false p d = inl (sym (free-other marks i x (eqb-false x i p)) ∙ d)
 
 module _ (B : List ℤ) (R C : ℕ) where
-  -- the marks after the first n cells: the openings of the zeros among them, and nothing else
-  pub record Scanned (n : ℕ) (marks : List ℕ) : Type 0 where
+  -- the marks after the cells of a stack: the openings of the zeros among them, and nothing else
+  pub record Scanned (st marks : List ℕ) : Type 0 where
     pub long : length marks ≡ R * C
-    pub sound : (x : ℕ) → freeAt marks x ≡ false → x < R * C → (j : ℕ) × ((j < n) × ((faceAt B j ≡ 0) × Joined B R C j x))
-    pub full : (j : ℕ) → j < n → faceAt B j ≡ 0 → freeAt marks j ≡ false
+    pub sound : (x : ℕ) → freeAt marks x ≡ false → x < R * C → From B R C (λ j. In j st) x
+    pub full : (j : ℕ) → In j st → faceAt B j ≡ 0 → freeAt marks j ≡ false
     pub closed : (x : ℕ) → x < R * C → freeAt marks x ≡ false → (k : ℕ) → k < 8 → freeAt marks (neighbour R C x k) ≡ true → faceAt B (neighbour R C x k) ≡ 0 → ⊥
 
-  module _ (n : ℕ) (marks : List ℕ) (on : n < R * C) (s : Scanned n marks) where
+  deeper : (i : ℕ) (st : List ℕ) {x : ℕ} → From B R C (λ j. In j st) x → From B R C (λ j. In j (i ∷ st)) x
+  deeper i st r = record { cell = r .cell; holds = inr (r .holds); nought = r .nought; joined = r .joined }
+
+  module _ (i : ℕ) (st marks : List ℕ) (s : Scanned st marks) where
     -- where nothing starts
-    same-next : (faceAt B n ≡ 0 → freeAt marks n ≡ false) → Scanned (suc n) marks
+    same-next : (faceAt B i ≡ 0 → freeAt marks i ≡ false) → Scanned (i ∷ st) marks
     same-next m =
         record {
           long = s .long;
-          sound = λ x e lt. let r = s .sound x e lt in (r .0, (let h = r .1 .0 in omega arith, r .1 .1));
-          full = λ j lt z. go j (eqb j n) refl lt z;
+          sound = λ x e lt. deeper i st (s .sound x e lt);
+          full = λ j h z. ⊎-elim (λ p. rw p (m (rw p at z))) (λ t. s .full j t z) h;
           closed = s .closed;
         }
-      where
-        go : (j : ℕ) (b : Bool) → eqb j n ≡ b → j < suc n → faceAt B j ≡ 0 → freeAt marks j ≡ false
-        go j true e lt z = rw (eqb-true j n e) (m (rw (eqb-true j n e) at z))
-        go j false e lt z = s .full j (let d = eqb-false j n e in omega arith) z
 
-    module _ (z : faceAt B n ≡ 0) where
-      fair : (x : ℕ) → In x (n ∷ []) → x < R * C → faceAt B x ≡ 0 → Joined B R C n x
+    module _ (on : i < R * C) (z : faceAt B i ≡ 0) where
+      fair : (x : ℕ) → In x (i ∷ []) → x < R * C → faceAt B x ≡ 0 → Joined B R C i x
       fair x s′ lt y = ⊎-elim (λ p. rw p here) (λ b. absurd b) s′
 
       -- no walk is stopped where no flag is shown
-      never : walkFrom B R C [] n marks .whole ≡ true
+      never : walkFrom B R C [] i marks .whole ≡ true
       unfolding walkFrom
-      never = go (walk B R C [] (turns (R * C)) (n ∷ []) marks true .whole) refl
+      never = go (walk B R C [] (turns (R * C)) (i ∷ []) marks true .whole) refl
         where
-          go : (b : Bool) → walk B R C [] (turns (R * C)) (n ∷ []) marks true .whole ≡ b → walk B R C [] (turns (R * C)) (n ∷ []) marks true .whole ≡ true
+          go : (b : Bool) → walk B R C [] (turns (R * C)) (i ∷ []) marks true .whole ≡ b → walk B R C [] (turns (R * C)) (i ∷ []) marks true .whole ≡ true
           go true e = e
-          go false e = let m = walk-met B R C [] (Joined B R C n) (λ i k j lt o y. next i k j lt o y) (turns (R * C)) (n ∷ []) marks (s .long) fair e in
+          go false e = let m = walk-met B R C [] (Joined B R C i) (λ i k j lt o y. next i k j lt o y) (turns (R * C)) (i ∷ []) marks (s .long) fair e in
               absurd (let h : _≡_ {A = ℕ} 0 11 = m .1 .1 in omega arith)
 
-      walked : Done B R C [] n (walkFrom B R C [] n marks .marks) []
+      walked : Done B R C [] i (walkFrom B R C [] i marks .marks) []
       unfolding walkFrom
       walked =
           let b = free-le marks in
           let l = s .long in
-          walk-done B R C [] n z (turns (R * C)) (n ∷ []) marks (s .long) (omega arith)
+          walk-done B R C [] i z (turns (R * C)) (i ∷ []) marks (s .long) (omega arith)
           (record { closed = λ x lt m k h e y. absurd (s .closed x lt m k h e y); first = λ m. inl refl; clean = λ x lt m. refl }) never′
         where
-          never′ : walk B R C [] (turns (R * C)) (n ∷ []) marks true .whole ≡ true
+          never′ : walk B R C [] (turns (R * C)) (i ∷ []) marks true .whole ≡ true
           never′ = never
 
-      from-long : length (walkFrom B R C [] n marks .marks) ≡ R * C
+      from-long : length (walkFrom B R C [] i marks .marks) ≡ R * C
       unfolding walkFrom
-      from-long = walk-long B R C [] (turns (R * C)) (n ∷ []) marks true ∙ s .long
+      from-long = walk-long B R C [] (turns (R * C)) (i ∷ []) marks true ∙ s .long
 
-      from-keeps : (x : ℕ) → freeAt marks x ≡ false → freeAt (walkFrom B R C [] n marks .marks) x ≡ false
+      from-keeps : (x : ℕ) → freeAt marks x ≡ false → freeAt (walkFrom B R C [] i marks .marks) x ≡ false
       unfolding walkFrom
-      from-keeps x e = walk-keeps B R C [] (turns (R * C)) (n ∷ []) marks true x e
+      from-keeps x e = walk-keeps B R C [] (turns (R * C)) (i ∷ []) marks true x e
 
-      from-only : (x : ℕ) → freeAt (walkFrom B R C [] n marks .marks) x ≡ false → (freeAt marks x ≡ false) ⊎ Joined B R C n x
+      from-only : (x : ℕ) → freeAt (walkFrom B R C [] i marks .marks) x ≡ false → (freeAt marks x ≡ false) ⊎ Joined B R C i x
       unfolding walkFrom
-      from-only x e = walk-only B R C [] (Joined B R C n) (λ i k j lt o y. next i k j lt o y) (turns (R * C)) (n ∷ []) marks true (s .long) fair x e
+      from-only x e = walk-only B R C [] (Joined B R C i) (λ i k j lt o y. next i k j lt o y) (turns (R * C)) (i ∷ []) marks true (s .long) fair x e
 
       -- where a walk starts
-      walk-next : Scanned (suc n) (walkFrom B R C [] n marks .marks)
+      walk-next : Scanned (i ∷ st) (walkFrom B R C [] i marks .marks)
       walk-next =
           record {
             long = from-long;
-            sound = λ x e lt. ⊎-elim (λ m. let r = s .sound x m lt in (r .0, (let h = r .1 .0 in omega arith, r .1 .1))) (λ j. (n, (omega arith, (z, j)))) (from-only x e);
-            full = λ j lt y. go j (eqb j n) refl lt y;
+            sound = λ x e lt. ⊎-elim (λ m. deeper i st (s .sound x m lt)) (λ j. record { cell = i; holds = inl refl; nought = record { on = on; face = z }; joined = j }) (from-only x e);
+            full = λ j h y. ⊎-elim (λ p. rw p (self (freeAt (walkFrom B R C [] i marks .marks) i) refl)) (λ t. from-keeps j (s .full j t y)) h;
             closed = λ x lt m k h e y. walked .closed x lt m k h e y;
           }
         where
-          self : (b : Bool) → freeAt (walkFrom B R C [] n marks .marks) n ≡ b → freeAt (walkFrom B R C [] n marks .marks) n ≡ false
+          self : (b : Bool) → freeAt (walkFrom B R C [] i marks .marks) i ≡ b → freeAt (walkFrom B R C [] i marks .marks) i ≡ false
           self true e = absurd (walked .first e)
           self false e = e
 
-          go : (j : ℕ) (b : Bool) → eqb j n ≡ b → j < suc n → faceAt B j ≡ 0 → freeAt (walkFrom B R C [] n marks .marks) j ≡ false
-          go j true e lt y = rw (eqb-true j n e) (self (freeAt (walkFrom B R C [] n marks .marks) n) refl)
-          go j false e lt y = from-keeps j (s .full j (let d = eqb-false j n e in omega arith) y)
+    -- an earlier 0 joined to i has left its mark there
+    seen : From B R C (λ j. In j st) i → freeAt marks i ≡ false
+    seen r =
+        joined-marked B R C [] (r .cell) (r .nought .face) marks (r .nought .on)
+        (record {
+          closed = λ x o m k b e y. absurd (s .closed x o m k b e y);
+          first = λ e. absurd (true≢false (sym e ∙ s .full (r .cell) (r .holds) (r .nought .face)));
+          clean = λ x o m. refl;
+        }) i (r .joined) .1
 
-    -- an earlier 0 joined to n has left its mark at n
-    seen : (j : ℕ) → j < n → faceAt B j ≡ 0 → Joined B R C j n → freeAt marks n ≡ false
-    seen j lt z h =
-        joined-marked B R C [] j z marks (omega arith)
-        (record { closed = λ x o m k b e y. absurd (s .closed x o m k b e y); first = λ e. absurd (true≢false (sym e ∙ s .full j lt z)); clean = λ x o m. refl }) n h .1
-
-    -- no earlier 0 is joined to n: it has no mark
-    unseen : ((j : ℕ) → j < n → faceAt B j ≡ 0 → Joined B R C j n → ⊥) → freeAt marks n ≡ true
-    unseen h = go (freeAt marks n) refl
-      where
-        go : (b : Bool) → freeAt marks n ≡ b → freeAt marks n ≡ true
-        go true e = e
-        go false e = let r = s .sound n e on in absurd (h (r .0) (r .1 .0) (r .1 .1 .0) (r .1 .1 .1))
-
-  scanned-next : (n : ℕ) (t : Tally) → n < R * C → Scanned n (t .marks) → Scanned (suc n) (judgeOne B R C [] n t .marks)
-  scanned-next n t on s = go (freeAt (t .marks) n) (eqb (faceAt B n) 0) refl refl
+  scanned-next : (i : ℕ) (st : List ℕ) (t : Tally) → Scanned st (t .marks) → Scanned (i ∷ st) (judgeOne B R C [] i t .marks)
+  scanned-next i st t s = go (freeAt (t .marks) i) (eqb (faceAt B i) 0) refl refl
     where
-      go : (a b : Bool) → freeAt (t .marks) n ≡ a → eqb (faceAt B n) 0 ≡ b → Scanned (suc n) (judgeOne B R C [] n t .marks)
-      go true true e f = rw (judge-zero B R C [] n t e (eqb-true _ _ f)) (walk-next n (t .marks) on s (eqb-true _ _ f))
-      go false true e f = rw (judge-marked B R C [] n t e) (same-next n (t .marks) on s (λ z. e))
-      go a false e f = rw (judge-number B R C [] n t (eqb-false _ _ f)) (same-next n (t .marks) on s (λ z. absurd (eqb-false _ _ f z)))
+      go : (a b : Bool) → freeAt (t .marks) i ≡ a → eqb (faceAt B i) 0 ≡ b → Scanned (i ∷ st) (judgeOne B R C [] i t .marks)
+      go true true e f = rw (judge-zero B R C [] i t e (eqb-true _ _ f)) (walk-next i st (t .marks) s (rw (s .long) at (free-fact (t .marks) i e .0)) (eqb-true _ _ f))
+      go false true e f = rw (judge-marked B R C [] i t e) (same-next i st (t .marks) s (λ z. e))
+      go a false e f = rw (judge-number B R C [] i t (eqb-false _ _ f)) (same-next i st (t .marks) s (λ z. absurd (eqb-false _ _ f z)))
 
-  pub scanned : (n : ℕ) → n ≤ R * C → Scanned n (tally B R C [] (below n) .marks)
-  unfolding tally below
-  scanned zero h =
+  pub scanned : (st : List ℕ) → Scanned st (tally B R C [] st .marks)
+  unfolding tally
+  scanned [] =
       record {
         long = length-replicate (R * C) 0;
         sound = λ x e lt. absurd (true≢false (sym (free-fresh (R * C) x lt) ∙ e));
-        full = λ j lt. absurd (omega arith);
+        full = λ j m. absurd m;
         closed = λ x lt e. absurd (true≢false (sym (free-fresh (R * C) x lt) ∙ e));
       }
-  scanned (suc n) h = scanned-next n (tally B R C [] (below n)) (omega arith) (scanned n (omega arith))
+  scanned (i ∷ st) = scanned-next i st (tally B R C [] st) (scanned st)
 
-  -- what the cell n adds to the openings of the total
-  one-more : (n : ℕ) (t : Tally) → judgeOne B R C [] n (tally B R C [] (below n)) ≡ t → openingsJudged B R C [] (below (suc n)) ≡ t .count
-  unfolding openingsJudged tally below
-  one-more n t e = ap (λ (x : Tally). x .count) e
+  -- what one cell more adds to the openings
+  one-more : (i : ℕ) (st : List ℕ) (t : Tally) → judgeOne B R C [] i (tally B R C [] st) ≡ t → openingsJudged B R C [] (i ∷ st) ≡ t .count
+  unfolding openingsJudged tally
+  one-more i st t e = ap (λ (x : Tally). x .count) e
 
-  so-far : (n : ℕ) → tally B R C [] (below n) .count ≡ openingsJudged B R C [] (below n)
+  so-far : (st : List ℕ) → tally B R C [] st .count ≡ openingsJudged B R C [] st
   unfolding openingsJudged
-  so-far n = refl
+  so-far st = refl
 
-  -- the first 0 of an opening counts
-  pub opening-first : (n : ℕ) → n < R * C → faceAt B n ≡ 0 → ((j : ℕ) → j < n → faceAt B j ≡ 0 → Joined B R C j n → ⊥)
-      → openingsJudged B R C [] (below (suc n)) ≡ openingsJudged B R C [] (below n) + 1
-  opening-first n on z h =
-      let t = tally B R C [] (below n) in
-      let s = scanned n (omega arith) in
-      one-more n _ (judge-zero B R C [] n t (unseen n (t .marks) on s h) z)
-      ∙ ap₂ (λ (x : ℕ) (b : Bool). x + bit b) (so-far n) (never n (t .marks) on s z)
+  module _ (i : ℕ) (st : List ℕ) where
+    -- the first 0 of an opening counts
+    free-counts : (on : i < R * C) → faceAt B i ≡ 0 → freeAt (tally B R C [] st .marks) i ≡ true → openingsJudged B R C [] (i ∷ st) ≡ openingsJudged B R C [] st + 1
+    free-counts on z e =
+        let t = tally B R C [] st in
+        one-more i st _ (judge-zero B R C [] i t e z)
+        ∙ ap₂ (λ (x : ℕ) (b : Bool). x + bit b) (so-far st) (never i st (t .marks) (scanned st) on z)
 
-  -- a later one does not
-  pub opening-later : (n j : ℕ) → n < R * C → j < n → faceAt B j ≡ 0 → Joined B R C j n → openingsJudged B R C [] (below (suc n)) ≡ openingsJudged B R C [] (below n)
-  opening-later n j on lt z h =
-      let t = tally B R C [] (below n) in
-      one-more n _ (judge-marked B R C [] n t (seen n (t .marks) on (scanned n (omega arith)) j lt z h)) ∙ so-far n
+    pub opening-first : Nought B R C i → (From B R C (λ j. In j st) i → ⊥) → openingsJudged B R C [] (i ∷ st) ≡ openingsJudged B R C [] st + 1
+    opening-first n h = go (freeAt (tally B R C [] st .marks) i) refl
+      where
+        go : (b : Bool) → freeAt (tally B R C [] st .marks) i ≡ b → openingsJudged B R C [] (i ∷ st) ≡ openingsJudged B R C [] st + 1
+        go true e = free-counts (n .on) (n .face) e
+        go false e = absurd (h (scanned st .sound i e (n .on)))
 
-  -- nor does any other cell
-  pub opening-number : (n : ℕ) → (faceAt B n ≡ 0 → ⊥) → openingsJudged B R C [] (below (suc n)) ≡ openingsJudged B R C [] (below n)
-  opening-number n z = one-more n _ (judge-number B R C [] n (tally B R C [] (below n)) z) ∙ so-far n
+    -- a later one does not
+    pub opening-later : From B R C (λ j. In j st) i → openingsJudged B R C [] (i ∷ st) ≡ openingsJudged B R C [] st
+    opening-later r = one-more i st _ (judge-marked B R C [] i (tally B R C [] st) (seen i st _ (scanned st) r)) ∙ so-far st
+
+    -- nor does any other cell
+    pub opening-other : (Nought B R C i → ⊥) → openingsJudged B R C [] (i ∷ st) ≡ openingsJudged B R C [] st
+    opening-other h = go (freeAt (tally B R C [] st .marks) i) (eqb (faceAt B i) 0) refl refl
+      where
+        go : (a b : Bool) → freeAt (tally B R C [] st .marks) i ≡ a → eqb (faceAt B i) 0 ≡ b → openingsJudged B R C [] (i ∷ st) ≡ openingsJudged B R C [] st
+        go true true e f = absurd (h (record { on = rw (scanned st .long) at (free-fact _ i e .0); face = eqb-true _ _ f }))
+        go false true e f = one-more i st _ (judge-marked B R C [] i (tally B R C [] st) e) ∙ so-far st
+        go a false e f = one-more i st _ (judge-number B R C [] i (tally B R C [] st) (eqb-false _ _ f)) ∙ so-far st
+
+    -- the cell is the first 0 of its opening, a later one, or none
+    pub data Rank : Type 0 where
+      first : Nought B R C i → (From B R C (λ j. In j st) i → ⊥) → Rank
+      later : From B R C (λ j. In j st) i → Rank
+      other : (Nought B R C i → ⊥) → Rank
+
+    pub rank : Rank
+    rank = go (freeAt (tally B R C [] st .marks) i) (eqb (faceAt B i) 0) (ltb i (R * C)) refl refl refl
+      where
+        go : (a b d : Bool) → freeAt (tally B R C [] st .marks) i ≡ a → eqb (faceAt B i) 0 ≡ b → ltb i (R * C) ≡ d → Rank
+        go a b false e f g = other (λ n. let h = n .on in let l : R * C ≤ i = ltb-false _ _ g in omega arith)
+        go a false true e f g = other (λ n. eqb-false _ _ f (n .face))
+        go true true true e f g = first (record { on = ltb-true _ _ g; face = eqb-true _ _ f }) (λ r. true≢false (sym e ∙ seen i st _ (scanned st) r))
+        go false true true e f g = later (scanned st .sound i e (ltb-true _ _ g))

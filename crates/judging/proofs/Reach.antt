@@ -13,8 +13,8 @@ use Rattle.rules.specs.Grid.{neighbour, pushed}
 use Rattle.rules.specs.Board.{faceAt}
 use Rattle.rules.specs.Opening.{turns}
 use Rattle.rules.specs.Judging.{freeAt, Kind, pass, stop, mark, kind, walk, walkFrom, judgedLeft, Walked, unmarked}
-use Rattle.judging.specs.Joining.{Joined, here, next, Flagged}
-use Rattle.judging.proofs.Lists.{In, pushed-all, pushed-keeps, pushed-has}
+use Rattle.judging.specs.Joining.{In, Joined, here, next, Flagged}
+use Rattle.judging.proofs.Lists.{pushed-all, pushed-keeps, pushed-has}
 use Rattle.judging.proofs.Turns.{free-fact, free-other, free-back, free-fresh, stop-means, mark-means, pass-means, walk-zero, walk-nil, walk-pass, walk-stop, walk-mark, freeCount, free-le, cost-mark}
 
 -- SOUND: a walk that is stopped met a 0 of the opening that shows 11

@@ -14,8 +14,7 @@ use Rattle.rules.specs.Grid.{neighbour, pushIf, pushed}
 use Rattle.rules.specs.Board.{faceAt}
 use Rattle.rules.specs.Opening.{turns}
 use Rattle.rules.specs.Judging.{freeAt, Kind, pass, stop, mark, kind, walk, walkFrom, judgedLeft, Walked, unmarked, tally}
-use Rattle.judging.specs.Joining.{Rust, empty, number, flag, nought}
-use Rattle.judging.proofs.Lists.{In}
+use Rattle.judging.specs.Joining.{In, Rust, empty, number, flag, nought}
 use Rattle.judging.proofs.Turns.{free-fact, free-other, free-back, free-fresh, stop-means, mark-means, pass-means, walk-zero, walk-nil, walk-pass, walk-stop, walk-mark, freeCount, free-le, cost-mark}
 use Rattle.judging.proofs.Judging.{tally-long}
 

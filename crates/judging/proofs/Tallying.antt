@@ -1,4 +1,4 @@
--- Walks put together: the work is given back, and the walks of a chord or of a whole board share their marks; the total.
+-- Walks put together: the work is given back, and the walks of a chord or of a whole board share their marks; left to solve, and the total.
 use mathlib.Core.Path.{_≡_, refl, ap, ap₂, sym, _∙_}
 use mathlib.Core.Bool.{Bool, true, false, true≢false}
 use mathlib.Core.List.{List, [], _∷_, _++_}
@@ -10,18 +10,19 @@ use lib.Dec.{ltb}
 use lib.ListN.{length, getD, drop, replicate, List·getD-append, length-replicate, getD-replicate}
 use lib.Seq.{ext-getD, getD-append-add, getD-drop}
 use lib.IntN.{ℤ}
-use Rattle.rules.specs.Words.{bit, stackOf, below}
+use Rattle.rules.specs.Words.{bit, stackOf}
+use Rattle.rules.specs.Grid.{pushIf, cellsIf}
 use Rattle.rules.specs.Board.{faceAt}
 use Rattle.rules.specs.Lent.{workRoom}
-use Rattle.rules.specs.Judging.{freeAt, walkFrom, judgedLeft, Walked, Tally, counted, judgeOne, tally, openingsJudged, lones, total3bv}
+use Rattle.rules.specs.Judging.{freeAt, walkFrom, judgedLeft, Walked, Tally, counted, judgeOne, tally, openingsJudged, lones, bvOf, notOpenAt, leftToSolve}
 use Rattle.cells.specs.Ground.{Zeros}
 use Rattle.cells.proofs.Words.{stack-length}
 use Rattle.judging.specs.declared.Sum.{Sum}
 use Rattle.cells.specs.Stack.{Rest}
-use Rattle.judging.specs.Parts.{marksOf, Went, Judged, Tallied}
+use Rattle.judging.specs.Parts.{marksOf, Went, Judged, JudgedIf, Tallied}
 use Rattle.lones.specs.Counts.{LoneRow}
 use Rattle.judging.proofs.Marks.{marks-none}
-use Rattle.judging.proofs.Judging.{judge-marked, judge-number, judge-zero, judged-length, length-below}
+use Rattle.judging.proofs.Judging.{judge-marked, judge-number, judge-zero, judged-length, cells-length}
 
 -- ---- the work is given back ----------------------------------------------------------------------------------------------------------
 
@@ -100,16 +101,6 @@ module _ (B : List ℤ) (R C : ℕ) (shown w : List ℕ) where
   chord-more at k w′ sum q w″ sum′ e t j l =
       rw (add-one, ← e) (tallied-more (stackOf at k) w′ sum q w″ sum′ t j l)
 
-  -- the cells of the board, one after the other
-  pub board-none : workRoom (R * C) ≤ length w → Zeros (workRoom (R * C)) w → Tallied B R C shown (below 0) w w (record { count = 0; walked = false })
-  unfolding below
-  board-none room z = tallied-none room z
-
-  pub board-more : (k : ℕ) (w′ : List ℕ) (sum : Sum) (w″ : List ℕ) (sum′ : Sum) → Tallied B R C shown (below k) w w′ sum
-      → Judged B R C shown k w′ sum w″ sum′ → length w″ ≡ length w′ → Tallied B R C shown (below (k + 1)) w w″ sum′
-  unfolding below
-  board-more k w′ sum w″ sum′ t j l = rw add-one (tallied-more (below k) w′ sum k w″ sum′ t j l)
-
 -- what was counted
 pub tallied-count : (B : List ℤ) (R C : ℕ) (shown st w w′ : List ℕ) (sum : Sum) → Tallied B R C shown st w w′ sum → sum .count ≡ openingsJudged B R C shown st
 unfolding openingsJudged
@@ -121,23 +112,49 @@ tallied-few B R C shown st w w′ sum t = let a = tallied-count B R C shown st w
 pub chord-few : (B : List ℤ) (R C : ℕ) (shown at : List ℕ) (k : ℕ) (w w′ : List ℕ) (sum : Sum) → Tallied B R C shown (stackOf at k) w w′ sum → sum .count ≤ k
 chord-few B R C shown at k w w′ sum t = rw (stack-length at k) at (tallied-few B R C shown (stackOf at k) w w′ sum t)
 
-pub board-few : (B : List ℤ) (R C : ℕ) (shown : List ℕ) (k : ℕ) (w w′ : List ℕ) (sum : Sum) → Tallied B R C shown (below k) w w′ sum → sum .count ≤ k
-board-few B R C shown k w w′ sum t = rw (length-below k) at (tallied-few B R C shown (below k) w w′ sum t)
+-- ---- those of the board's cells that pass a test -------------------------------------------------------------------------------------
 
--- ---- the total -----------------------------------------------------------------------------------------------------------------------
+module _ (B : List ℤ) (R C : ℕ) (due : ℕ → Bool) (w : List ℕ) where
+  pub board-none : workRoom (R * C) ≤ length w → Zeros (workRoom (R * C)) w → Tallied B R C [] (cellsIf due 0) w w (record { count = 0; walked = false })
+  unfolding cellsIf
+  board-none room z = tallied-none B R C [] w room z
 
-module _ (B : List ℤ) (R C : ℕ) where
-  none : lones B R C (below 0) ≡ 0
-  unfolding lones below
+  -- one cell more
+  pub board-more : (k : ℕ) (w′ : List ℕ) (sum : Sum) (w″ : List ℕ) (sum′ : Sum) → Tallied B R C [] (cellsIf due k) w w′ sum
+      → JudgedIf (due k) B R C k w′ sum w″ sum′ → length w″ ≡ length w′ → Tallied B R C [] (cellsIf due (k + 1)) w w″ sum′
+  unfolding cellsIf
+  board-more k w′ sum w″ sum′ t j l = rw add-one (go (due k) refl)
+    where
+      go : (b : Bool) → due k ≡ b → Tallied B R C [] (pushIf b k (cellsIf due k)) w w″ sum′
+      go true e = tallied-more B R C [] w (cellsIf due k) w′ sum k w″ sum′ t (j .yes e) l
+      go false e = let n = j .no e in rw (n .0, n .1) t
+
+  pub board-few : (k : ℕ) (w′ : List ℕ) (sum : Sum) → Tallied B R C [] (cellsIf due k) w w′ sum → sum .count ≤ k
+  board-few k w′ sum t = let a = tallied-few B R C [] (cellsIf due k) w w′ sum t in omega (arith, cells-length due k)
+
+-- a cell that is open, and one that is not
+module _ {t b : Bool} (e : b ≡ t) (B : List ℤ) (R C q : ℕ) (w : List ℕ) (sum : Sum) where
+  pub judged-open : b ≡ false → JudgedIf t B R C q w sum w sum
+  judged-open d = record { yes = λ y. absurd (true≢false (sym y ∙ sym e ∙ d)); no = λ n. (refl, refl) }
+
+  pub judged-due : b ≡ true → (w′ : List ℕ) (sum′ : Sum) → Judged B R C [] q w sum w′ sum′ → JudgedIf t B R C q w sum w′ sum′
+  judged-due d w′ sum′ j = record { yes = λ y. j; no = λ n. absurd (true≢false (sym d ∙ e ∙ n)) }
+
+-- ---- left to solve -------------------------------------------------------------------------------------------------------------------
+
+module _ (B : List ℤ) (R C : ℕ) (shown : List ℕ) where
+  none : lones B R C (cellsIf (notOpenAt shown) 0) ≡ 0
+  unfolding lones cellsIf
   none = refl
 
-  -- the total from its two counts
-  pub total-is : (w w′ : List ℕ) (sum : Sum) (numbers : ℕ) → Tallied B R C [] (below (R * C)) w w′ sum → LoneRow B R C 0 (R * C) numbers → sum .count + numbers ≡ total3bv B R C
-  unfolding total3bv
-  total-is w w′ sum numbers t l = ap₂ (λ (x y : ℕ). x + y) (tallied-count B R C [] (below (R * C)) w w′ sum t) whole
+  -- from its two counts
+  pub left-is : (w w′ : List ℕ) (sum : Sum) (numbers : ℕ) → Tallied B R C [] (cellsIf (notOpenAt shown) (R * C)) w w′ sum → LoneRow B R C (notOpenAt shown) 0 (R * C) numbers
+      → sum .count + numbers ≡ leftToSolve B R C shown
+  unfolding bvOf leftToSolve
+  left-is w w′ sum numbers t l = ap₂ (λ (x y : ℕ). x + y) (tallied-count B R C [] (cellsIf (notOpenAt shown) (R * C)) w w′ sum t) whole
     where
-      whole : numbers ≡ lones B R C (below (R * C))
+      whole : numbers ≡ lones B R C (cellsIf (notOpenAt shown) (R * C))
       whole =
           let z : 0 + R * C ≡ R * C = omega arith in
-          let a : lones B R C (below 0) + numbers ≡ lones B R C (below (R * C)) = l .answer ∙ ap (λ (n : ℕ). lones B R C (below n)) z in
+          let a : lones B R C (cellsIf (notOpenAt shown) 0) + numbers ≡ lones B R C (cellsIf (notOpenAt shown) (R * C)) = l .answer ∙ ap (λ (n : ℕ). lones B R C (cellsIf (notOpenAt shown) n)) z in
           omega (arith, none)

@@ -1,4 +1,4 @@
--- How high the stack of a walk gets, and that of the walks of a chord or of the total.
+-- How high the stack of a walk gets, and that of the walks of a chord, of left to solve or of the total.
 use mathlib.Core.Bool.{_&&_}
 use mathlib.Core.List.{List, [], _∷_}
 use Prim.Native.Nat.{ℕ, zero, suc, _*_, max}

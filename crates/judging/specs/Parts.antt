@@ -1,7 +1,7 @@
 -- What the parts of the walks require and ensure: the marks above the stack in the lent work, one turn, one walk, one cell judged, the cells of a stack judged.
 use mathlib.Core.Path.{_≡_}
-use mathlib.Core.Bool.{Bool, false}
-use mathlib.Core.List.{List}
+use mathlib.Core.Bool.{Bool, true, false}
+use mathlib.Core.List.{List, []}
 use Prim.Native.Nat.{ℕ, _+_, _*_, _≤_}
 use lib.ListN.{length, set, take, drop}
 use lib.IntN.{ℤ}
@@ -43,6 +43,11 @@ pub record Judged (B : List ℤ) (R C : ℕ) (shown : List ℕ) (q : ℕ) (w : L
   pub outcome : judgeOne B R C shown q (record { count = sum .count; marks = marksOf (R * C) w }) ≡ record { count = sum′ .count; marks = marksOf (R * C) w′ }
   pub rest : Rest (workRoom (R * C)) w w′
   pub still : sum′ .walked ≡ false → (sum .walked ≡ false) × (w′ ≡ w)
+
+-- one cell was judged by a walk that is shown nothing, if it was due; else nothing changed
+pub record JudgedIf (due : Bool) (B : List ℤ) (R C q : ℕ) (w : List ℕ) (sum : Sum) (w′ : List ℕ) (sum′ : Sum) : Type 0 where
+  pub yes : due ≡ true → Judged B R C [] q w sum w′ sum′
+  pub no : due ≡ false → (w′ ≡ w) × (sum′ ≡ sum)
 
 -- the cells of a stack were judged
 pub record Tallied (B : List ℤ) (R C : ℕ) (shown st w w′ : List ℕ) (sum : Sum) : Type 0 where

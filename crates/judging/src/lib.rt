@@ -1,18 +1,19 @@
-// The opening walks of a left click and of a chord, and the 3BV total. Stack and marks stand in the lent work, which comes back as it was.
+// The opening walks of a left click and of a chord, left to solve and the 3BV total. Stack and marks stand in the lent work, which comes back as it was.
 // The contracts cite rules' Judging, and specs/Parts for what the inner functions do.
 ghost use mathlib.Core.Path.{_≡_};
 ghost use mathlib.Core.Bool.{true, false};
+ghost use mathlib.Core.List.{[]};
 ghost use Prim.Native.Nat.{_+_, _-_, _*_, _<_, _≤_};
 ghost use lib.Dec.{eqb};
 ghost use lib.ListN.{length, getD, set};
-ghost use Rattle.rules.specs.Words.{stackOf, below};
-ghost use Rattle.rules.specs.Grid.{pushIf, pushed};
+ghost use Rattle.rules.specs.Words.{stackOf};
+ghost use Rattle.rules.specs.Grid.{pushIf, cellsIf, pushed};
 ghost use Rattle.rules.specs.Lent.{workRoom};
-ghost use Rattle.rules.specs.Judging.{freeAt, judgedLeft, openingsJudged, total3bv};
+ghost use Rattle.rules.specs.Judging.{freeAt, judgedLeft, openingsJudged, total3bv, notOpenAt, leftToSolve};
 ghost use Rattle.cells.specs.Ground.{Sized, Mined, Zeros, Below};
 ghost use Rattle.cells.specs.Contracts.{Laid, Leaves};
 ghost use Rattle.cells.specs.Stack.{Grown};
-ghost use Rattle.judging.specs.Parts.{stackRoom, marksOf, Walkable, Stepped, Went, Judged, Tallied};
+ghost use Rattle.judging.specs.Parts.{stackRoom, marksOf, Walkable, Stepped, Went, Judged, JudgedIf, Tallied};
 
 // The cell q is on the board and has no mark.
 fn free(work: &[u16], size: usize, q: usize) -> bool
@@ -260,11 +261,34 @@ pub fn op_num_around_cell(
     sum.count
 }
 
-// The openings of the board: the walks from all its cells in row order.
+// A walk from q if it is not open. The walk is shown nothing, so no flag stops it.
+fn judge_left(
+    mines: &[i8],
+    shown: &[u8],
+    work: &mut [u16],
+    rows: usize,
+    columns: usize,
+    q: usize,
+    sum: Sum,
+) -> Sum
+    requires { ⌜ Walkable (now mines) (now work) rows columns ⌝ }
+    requires { ⌜ q < rows * columns ⌝ }
+    requires { ⌜ sum .count ≤ 2048 ⌝ }
+    ensures { λ r. ⌜ JudgedIf (notOpenAt (now (shown .entry)) q) (now (mines .entry)) rows columns q (now (work .entry)) sum (now (work .exit)) r ⌝ }
+{
+    let due = lones::not_open(shown, q);
+    if !due {
+        return sum;
+    }
+    let none = [0u8; 0];
+    judge_one(mines, &none, work, rows, columns, q, sum)
+}
+
+// The openings with a 0 that is not open: the walks from those of the board's cells, in row order.
 fn judge_board(mines: &[i8], shown: &[u8], work: &mut [u16], rows: usize, columns: usize) -> Sum
     requires { ⌜ Walkable (now mines) (now work) rows columns ⌝ }
     requires { ⌜ Zeros (workRoom (rows * columns)) (now work) ⌝ }
-    ensures { λ r. ⌜ Tallied (now (mines .entry)) rows columns (now (shown .entry)) (below (rows * columns)) (now (work .entry)) (now (work .exit)) r ⌝ }
+    ensures { λ r. ⌜ Tallied (now (mines .entry)) rows columns [] (cellsIf (notOpenAt (now (shown .entry))) (rows * columns)) (now (work .entry)) (now (work .exit)) r ⌝ }
 {
     let n = rows * columns;
     let mut sum = Sum {
@@ -272,12 +296,31 @@ fn judge_board(mines: &[i8], shown: &[u8], work: &mut [u16], rows: usize, column
         walked: false,
     };
     for i in 0..n {
-        sum = judge_one(mines, shown, work, rows, columns, i, sum);
+        sum = judge_left(mines, shown, work, rows, columns, i, sum);
     }
     sum
 }
 
-// 3BV total: openings plus numbers without a 0 neighbour.
+// Left to solve: openings with a 0 not open, plus numbers without a 0 neighbour not open.
+pub fn left_to_solve(
+    mines: &[i8],
+    shown: &[u8],
+    work: &mut [u16],
+    rows: usize,
+    columns: usize,
+) -> usize
+    requires { ⌜ Mined (now mines) rows columns ⌝ }
+    requires { ⌜ workRoom (rows * columns) ≤ length (now work) ⌝ }
+    requires { ⌜ Zeros (workRoom (rows * columns)) (now work) ⌝ }
+    ensures { λ r. ⌜ Leaves r (leftToSolve (now (mines .entry)) rows columns (now (shown .entry))) (now (work .entry)) (now (work .exit)) ⌝ }
+{
+    let openings = judge_board(mines, shown, work, rows, columns);
+    cells::clear(work, 8 * (rows * columns) + 8);
+    let numbers = lones::lone_board(mines, shown, rows, columns);
+    openings.count + numbers
+}
+
+// 3BV total: what is left to solve where nothing is shown.
 pub fn total_3bv(mines: &[i8], work: &mut [u16], rows: usize, columns: usize) -> usize
     requires { ⌜ Mined (now mines) rows columns ⌝ }
     requires { ⌜ workRoom (rows * columns) ≤ length (now work) ⌝ }
@@ -285,8 +328,5 @@ pub fn total_3bv(mines: &[i8], work: &mut [u16], rows: usize, columns: usize) ->
     ensures { λ r. ⌜ Leaves r (total3bv (now (mines .entry)) rows columns) (now (work .entry)) (now (work .exit)) ⌝ }
 {
     let none = [0u8; 0];
-    let openings = judge_board(mines, &none, work, rows, columns);
-    cells::clear(work, 8 * (rows * columns) + 8);
-    let numbers = lones::lone_board(mines, rows, columns);
-    openings.count + numbers
+    left_to_solve(mines, &none, work, rows, columns)
 }

@@ -15,3 +15,4 @@ pub mod Room
 pub mod Calls
 pub mod Able
 pub mod Opens
+pub mod Solved

@@ -1,19 +1,19 @@
--- Lone numbers: the ways through the code, and their counts over a chord's cells, a row and the board.
+-- Lone numbers: the ways through the code, and their counts over a chord's cells, and over those not open of a row and of the board.
 use mathlib.Core.Path.{_≡_, refl, ap, ap₂, sym, _∙_}
-use mathlib.Core.Bool.{Bool, false, not}
+use mathlib.Core.Bool.{Bool, true, false, not, _&&_}
 use mathlib.Core.List.{List, [], _∷_}
 use Prim.Native.Nat.{ℕ, zero, suc, _+_, _*_, _/_, _%_, _<_, _≤_}
 use native.Mathlib.Nat.{suc-mul, mul-le-mul-right}
 use native.Mathlib.Omega.{arith}
 use native.Mathlib.Numerals.{add-one}
-use borrow.Author.Tests.{le-leb, ne-eqb}
-use lib.Dec.{eqb, leb}
+use borrow.Author.Tests.{le-leb, lt-leb, ne-eqb}
+use lib.Dec.{eqb, leb, ltb}
 use lib.ListN.{length, getD}
 use lib.IntN.{ℤ, pos}
-use Rattle.rules.specs.Words.{bit, stackOf, below}
-use Rattle.rules.specs.Grid.{cellOf, around}
+use Rattle.rules.specs.Words.{bit, stackOf}
+use Rattle.rules.specs.Grid.{cellOf, around, pushIf, cellsIf}
 use Rattle.rules.specs.Board.{faceAt, zeroAt, loneAt}
-use Rattle.rules.specs.Judging.{lones}
+use Rattle.rules.specs.Judging.{lones, notOpenAt}
 use Rattle.cells.specs.Ground.{Mined, faceIs}
 use Rattle.cells.proofs.Words.{bit-le, stack-length}
 use Rattle.cells.proofs.Grid.{cell-back}
@@ -52,6 +52,26 @@ module _ (B : List ℤ) (R C i : ℕ) where
 pub lone-cell : (B : List ℤ) (R C i : ℕ) {b : Bool} → b ≡ loneAt B R C (cellOf C (i / C) (i % C)) → b ≡ loneAt B R C i
 lone-cell B R C i e = e ∙ ap (loneAt B R C) (cell-back C i)
 
+-- ---- a cell that is not open -----------------------------------------------------------------------------------------------------------
+
+module _ (shown : List ℕ) (i : ℕ) where
+  -- past the shown board
+  pub not-open-off : length shown ≤ i → true ≡ notOpenAt shown i
+  unfolding notOpenAt
+  not-open-off h = rw (le-leb _ _ h)
+
+  -- on it
+  pub not-open-on : i < length shown → ltb 8 (getD shown i 0) ≡ notOpenAt shown i
+  unfolding notOpenAt
+  not-open-on h = rw (lt-leb _ _ h)
+
+-- an open cell is none that is not open
+pub left-open : {t : Bool} (u : Bool) {b : Bool} → b ≡ t → b ≡ false → false ≡ (t && u)
+left-open {t} u e d = rw (sym e ∙ d)
+
+pub left-lone : {t u : Bool} {a b : Bool} → b ≡ t → b ≡ true → a ≡ u → a ≡ (t && u)
+left-lone {t} {u} e d f = rw (sym e ∙ d) f
+
 -- ---- a chord's cells -----------------------------------------------------------------------------------------------------------------
 
 module _ (B : List ℤ) (R C : ℕ) where
@@ -74,39 +94,47 @@ module _ (B : List ℤ) (R C : ℕ) where
   pub cells-done : (at : List ℕ) (n sum : ℕ) → n ≤ 8 → sum ≡ lones B R C (stackOf at n) → Lone B R C (stackOf at n) sum
   cells-done at n sum h e = record { answer = e; few = let b = cells-few at n e in omega arith }
 
-  -- ---- a row, and the board ----------------------------------------------------------------------------------------------------------
+  -- ---- those that pass a test, of a row and of the board ------------------------------------------------------------------------------
 
-  pub row-none : (from : ℕ) → LoneRow B R C from 0 0
-  row-none from = record { answer = let e : from + 0 ≡ from = omega arith in rw e (omega arith); few = omega arith }
+  -- a cell that does not pass counts for nothing
+  pub lones-if : (b : Bool) (i : ℕ) (st : List ℕ) → lones B R C (pushIf b i st) ≡ lones B R C st + bit (b && loneAt B R C i)
+  unfolding lones
+  lones-if true i st = refl
+  lones-if false i st = omega arith
 
-  more : (n : ℕ) → lones B R C (below (n + 1)) ≡ lones B R C (below n) + bit (loneAt B R C n)
-  unfolding lones below
-  more n = rw add-one refl
+  module _ (due : ℕ → Bool) where
+    pub row-none : (from : ℕ) → LoneRow B R C due from 0 0
+    row-none from = record { answer = let e : from + 0 ≡ from = omega arith in rw e (omega arith); few = omega arith }
 
-  -- one cell more
-  pub row-more : (from n sum : ℕ) (b : Bool) (one : ℕ) → LoneRow B R C from n sum → b ≡ loneAt B R C (from + n) → one ≡ bit b → LoneRow B R C from (n + 1) (sum + one)
-  row-more from n sum b one l h o =
-      let e : from + (n + 1) ≡ from + n + 1 = omega arith in
-      let d : one ≡ bit (loneAt B R C (from + n)) = o ∙ ap bit h in
-      let k = bit-le (loneAt B R C (from + n)) in
-      record { answer = rw (e, more (from + n)) (omega (arith, l .answer)); few = omega (arith, l .few) }
+    more : (n : ℕ) → lones B R C (cellsIf due (n + 1)) ≡ lones B R C (cellsIf due n) + bit (due n && loneAt B R C n)
+    unfolding cellsIf
+    more n = rw add-one (lones-if (due n) n (cellsIf due n))
 
-  -- one row more
-  pub board-more : (row sum one : ℕ) → LoneRow B R C 0 (row * C) sum → LoneRow B R C (row * C) C one → LoneRow B R C 0 ((row + 1) * C) (sum + one)
-  board-more row sum one l r =
-      let e : (row + 1) * C ≡ row * C + C = rw add-one (suc-mul row C) in
-      rw e (record { answer = go; few = omega (arith, l .few, r .few) })
-    where
-      zero-plus : (n : ℕ) → 0 + n ≡ n
-      zero-plus n = omega arith
+    -- one cell more
+    pub row-more : (from n sum : ℕ) (b : Bool) (one : ℕ) → LoneRow B R C due from n sum → b ≡ (due (from + n) && loneAt B R C (from + n)) → one ≡ bit b
+        → LoneRow B R C due from (n + 1) (sum + one)
+    row-more from n sum b one l h o =
+        let e : from + (n + 1) ≡ from + n + 1 = omega arith in
+        let d : one ≡ bit (due (from + n) && loneAt B R C (from + n)) = o ∙ ap bit h in
+        let k = bit-le (due (from + n) && loneAt B R C (from + n)) in
+        record { answer = rw (e, more (from + n)) (omega (arith, l .answer)); few = omega (arith, l .few) }
 
-      go : lones B R C (below 0) + (sum + one) ≡ lones B R C (below (0 + (row * C + C)))
-      go =
-          let a : lones B R C (below 0) + sum ≡ lones B R C (below (row * C)) = l .answer ∙ ap (λ (n : ℕ). lones B R C (below n)) (zero-plus (row * C)) in
-          rw (zero-plus (row * C + C)) (omega (arith, r .answer))
+    -- one row more
+    pub board-more : (row sum one : ℕ) → LoneRow B R C due 0 (row * C) sum → LoneRow B R C due (row * C) C one → LoneRow B R C due 0 ((row + 1) * C) (sum + one)
+    board-more row sum one l r =
+        let e : (row + 1) * C ≡ row * C + C = rw add-one (suc-mul row C) in
+        rw e (record { answer = go; few = omega (arith, l .few, r .few) })
+      where
+        zero-plus : (n : ℕ) → 0 + n ≡ n
+        zero-plus n = omega arith
 
-  pub board-few : (row sum : ℕ) → LoneRow B R C 0 (row * C) sum → row ≤ R → sum ≤ R * C
-  board-few row sum l h = omega (arith, l .few, mul-le-mul-right C h)
+        go : lones B R C (cellsIf due 0) + (sum + one) ≡ lones B R C (cellsIf due (0 + (row * C + C)))
+        go =
+            let a : lones B R C (cellsIf due 0) + sum ≡ lones B R C (cellsIf due (row * C)) = l .answer ∙ ap (λ (n : ℕ). lones B R C (cellsIf due n)) (zero-plus (row * C)) in
+            rw (zero-plus (row * C + C)) (omega (arith, r .answer))
 
-  pub board-none : LoneRow B R C 0 (0 * C) 0
-  board-none = let e : 0 * C ≡ 0 = omega arith in rw e (row-none 0)
+    pub board-few : (row sum : ℕ) → LoneRow B R C due 0 (row * C) sum → row ≤ R → sum ≤ R * C
+    board-few row sum l h = omega (arith, l .few, mul-le-mul-right C h)
+
+    pub board-none : LoneRow B R C due 0 (0 * C) 0
+    board-none = let e : 0 * C ≡ 0 = omega arith in rw e (row-none 0)

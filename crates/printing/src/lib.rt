@@ -5,7 +5,6 @@ ghost use mathlib.Core.List.{_∷_, []};
 ghost use Prim.Native.Nat.{_+_, _*_, _≤_};
 ghost use lib.ListN.{length};
 ghost use Rattle.rules.specs.States.{gameNumber, mouseNumber};
-ghost use Rattle.rules.specs.Judging.{leftToSolve};
 ghost use Rattle.rules.specs.Clicks.{desk};
 ghost use Rattle.rules.specs.Book.{bookOf};
 ghost use Rattle.rules.specs.Printout.{lineOf, endLines};
@@ -52,20 +51,6 @@ pub fn put_play(out: &mut [u8], at: usize, number: u16, o: Played) -> usize
     text::put_event_line(out, at, number, o.answer, game, mouse)
 }
 
-// The total minus both solved counts, or 0.
-fn left_of(total: u32, left: u32, chord: u32) -> u32
-    ensures { λ r. ⌜ r ≡ leftToSolve total left chord ⌝ }
-{
-    if total < left {
-        return 0;
-    }
-    let rest = total - left;
-    if rest < chord {
-        return 0;
-    }
-    rest - chord
-}
-
 // The counts, the 3BV and the shown rows.
 pub fn finish(
     p: Position,
@@ -82,8 +67,7 @@ pub fn finish(
 {
     let rows = cells::wide(p.settings.rows);
     let columns = cells::wide(p.settings.columns);
-    let cells = judging::total_3bv(mines, &mut *work, rows, columns);
-    let total = cells as u32;
-    let left = left_of(total, p.secrets.solved_left, p.secrets.solved_chord);
-    text::put_end(&mut *out, at, p, total, left, shown)
+    let total = judging::total_3bv(mines, &mut *work, rows, columns);
+    let left = judging::left_to_solve(mines, shown, &mut *work, rows, columns);
+    text::put_end(&mut *out, at, p, total as u32, left as u32, shown)
 }

@@ -148,9 +148,6 @@ module _ (B : List ℤ) (d : Desk) (work : List ℕ) (n : ℕ) (e : n ≡ lentRe
   pub lent-mined : Mined B (d .position .settings .rows) (d .position .settings .columns) × (workRoom (cellsIn (d .position .settings)) ≤ length work)
   lent-mined = (lent-lawful B d work (sym e ∙ z) .kept .sound .ground .mined, room)
 
-  pub lent-solved : d .position .secrets .«solved_left» + d .position .secrets .«solved_chord» ≤ 2048
-  lent-solved = sound-small (lent-lawful B d work (sym e ∙ z) .kept .sound) .solved
-
 -- a lawful position's solved counts are few
 pub check-solved : (B : List ℤ) (d : Desk) (n : ℕ) → n ≡ positionCheck B d → n ≡ 0 → d .position .secrets .«solved_left» + d .position .secrets .«solved_chord» ≤ 2048
 check-solved B d n e z = sound-small (check-lawful B d (sym e ∙ z) .kept .sound) .solved

@@ -222,10 +222,7 @@ unfoldable pub leftToSolveOf : List ℤ → Desk → List ℕ → Asked
 leftToSolveOf B d work =
     pick (eqb (lentRefusal B d work) 0)
     (record {
-      answer =
-          answers 0 (d .position)
-          (leftToSolve (total3bv B (d .position .settings .rows) (d .position .settings .columns)) (d .position .secrets .«solved_left»)
-          (d .position .secrets .«solved_chord»));
+      answer = answers 0 (d .position) (leftToSolve B (d .position .settings .rows) (d .position .settings .columns) (d .shown));
       work = workAfter (cellsIn (d .position .settings)) work;
     })
     (record { answer = refuses B (d .position) (lentRefusal B d work); work = work })

@@ -1,6 +1,6 @@
--- Sizes, cells, and the neighbours of a cell in row order.
+-- Sizes, cells and which of them pass a test, and the neighbours of a cell, in row order.
 use mathlib.Core.Bool.{Bool, true, false, _&&_}
-use mathlib.Core.List.{List, _∷_}
+use mathlib.Core.List.{List, [], _∷_}
 use Prim.Native.Nat.{ℕ, zero, suc, _+_, _-_, _*_, _/_, _%_}
 use lib.Dec.{leb}
 use Rattle.rules.specs.Words.{pick, count}
@@ -32,6 +32,11 @@ around R C p i = count (λ k. p (neighbour R C i k)) 8
 abbrev pub pushIf : Bool → ℕ → List ℕ → List ℕ
 pushIf true q st = q ∷ st
 pushIf false q st = st
+
+-- those of the first n cells that pass a test, as a stack, the last of them on top
+unfoldable pub cellsIf : (ℕ → Bool) → ℕ → List ℕ
+cellsIf p zero = []
+cellsIf p (suc n) = pushIf (p n) n (cellsIf p n)
 
 -- those of the first n neighbours that pass the test go on a stack, in row order
 unfoldable pub pushed : ℕ → ℕ → (ℕ → Bool) → ℕ → ℕ → List ℕ → List ℕ

@@ -1,14 +1,14 @@
 -- Openings judged: the walk of a left click and the walks of a chord, the 3BV total, and left to solve.
 -- An opening is 0 cells joined over eight neighbours. A walk stacks unmarked neighbours in row order and takes the last first.
 -- It stops with no count at a 0 cell showing 11, keeping marks made so far.
-use mathlib.Core.Bool.{Bool, true, false, _&&_}
+use mathlib.Core.Bool.{Bool, true, false, _&&_, _||_}
 use mathlib.Core.List.{List, [], _∷_}
-use Prim.Native.Nat.{ℕ, zero, suc, _+_, _-_, _*_}
-use lib.Dec.{ltb, eqb}
+use Prim.Native.Nat.{ℕ, zero, suc, _+_, _*_}
+use lib.Dec.{ltb, leb, eqb}
 use lib.ListN.{length, getD, set, replicate}
 use lib.IntN.{ℤ}
-use Rattle.rules.specs.Words.{pick, bit, below}
-use Rattle.rules.specs.Grid.{pushed}
+use Rattle.rules.specs.Words.{pick, bit}
+use Rattle.rules.specs.Grid.{cellsIf, pushed}
 use Rattle.rules.specs.Board.{faceAt, loneAt}
 use Rattle.rules.specs.Opening.{turns}
 
@@ -92,10 +92,18 @@ unfoldable pub lones : List ℤ → ℕ → ℕ → List ℕ → ℕ
 lones B R C [] = 0
 lones B R C (i ∷ st) = lones B R C st + bit (loneAt B R C i)
 
--- 3BV total: openings plus numbers without a 0 neighbour; nothing is shown, so no walk stops
-unfoldable pub total3bv : List ℤ → ℕ → ℕ → ℕ
-total3bv B R C = openingsJudged B R C [] (below (R * C)) + lones B R C (below (R * C))
+-- the openings with a 0 that passes a test, plus the numbers without a 0 neighbour that pass it; the walks are shown nothing, so none stops
+unfoldable pub bvOf : List ℤ → ℕ → ℕ → (ℕ → Bool) → ℕ
+bvOf B R C due = openingsJudged B R C [] (cellsIf due (R * C)) + lones B R C (cellsIf due (R * C))
 
--- left to solve: the total minus both solved counts, or 0 if that is negative
-abbrev pub leftToSolve : ℕ → ℕ → ℕ → ℕ
-leftToSolve total left chord = total - (left + chord)
+-- 3BV total: openings plus numbers without a 0 neighbour
+unfoldable pub total3bv : List ℤ → ℕ → ℕ → ℕ
+total3bv B R C = bvOf B R C (λ i. true)
+
+-- not open: not showing 0 to 8; where nothing is shown, nothing is open
+unfoldable pub notOpenAt : List ℕ → ℕ → Bool
+notOpenAt shown i = leb (length shown) i || ltb 8 (getD shown i 0)
+
+-- left to solve: openings with at least one 0 cell not open, plus numbers without a 0 neighbour not open
+unfoldable pub leftToSolve : List ℤ → ℕ → ℕ → List ℕ → ℕ
+leftToSolve B R C shown = bvOf B R C (notOpenAt shown)

@@ -1,4 +1,4 @@
--- The positions that document 01 marks P, and three beside them, as one table and one theorem that the checker computes over the definitions.
+-- The positions that document 01 marks P, and six beside them, as one table and one theorem that the checker computes over the definitions.
 -- Open is lc, lr; flag rc, rr. Each row is a game from its fresh start: settings, mine list, events, all that stands at its end, and what each event opened.
 use mathlib.Core.Path.{_≡_, refl}
 use mathlib.Core.Bool.{Bool, true, false, _&&_}
@@ -8,13 +8,13 @@ use lib.Dec.{leb, eqb}
 use lib.ListN.{getD}
 use lib.IntN.{ℤ, pos, negsuc}
 use Rattle.rules.specs.declared.Settings.{Settings}
-use Rattle.rules.specs.Words.{pick, count, every, inOrder, stackOf, below, rounds}
+use Rattle.rules.specs.Words.{pick, count, every, inOrder, stackOf, rounds}
 use Rattle.rules.specs.States.{gameNumber, mouseNumber, mouseAt}
-use Rattle.rules.specs.Grid.{sizeOk, ninth, cellBefore, neighbour, around, pushed}
+use Rattle.rules.specs.Grid.{sizeOk, ninth, cellBefore, neighbour, around, cellsIf, pushed}
 use Rattle.rules.specs.Board.{zeroAt, loneAt, mineOk, listedMine, numberedAt, numbered, numberingRefusal}
 use Rattle.rules.specs.Lent.{bitAt, withBit}
 use Rattle.rules.specs.Opening.{shownAfter, stackAfter, hitAfter, run, crossed, refreshed}
-use Rattle.rules.specs.Judging.{freeAt, kind, walk, walkFrom, judgedLeft, judgeOne, tally, openingsJudged, lones, total3bv}
+use Rattle.rules.specs.Judging.{freeAt, kind, walk, walkFrom, judgedLeft, judgeOne, tally, openingsJudged, lones, bvOf, total3bv, notOpenAt, leftToSolve}
 use Rattle.rules.specs.Clicks.{Desk, Play, done, rowsOf, columnsOf, cellsOf, flagAt, isWon, ended, solvesLeft, leftOpens, leftClick, bitsWith, addsRce, takeBack, chordIsUseful, chordOpens, performChord}
 use Rattle.rules.specs.Passes.{remainder, allClosed, ripeAt, listed, flagOne, flagAll, flagRound, flagPass, chordOne, chordScan, chordRound, chordPass, bothRound, bothPass, passesAfterFlag, passesAfterChord, rightClick, chordingClick}
 use Rattle.rules.specs.Mouse.{mouseTable, nextMouse, moved, bothDown, resolved, flipped}
@@ -36,7 +36,7 @@ pub record Row : Type 0 where
 unfoldable told : Settings → List ℕ → Play → List ℕ
 told s mines o =
     (o .answer ∷ gameNumber (o .desk .position .game) ∷ mouseNumber (o .desk .position .mouse) ∷ nineCounts (o .desk .position))
-    ++ (twoBv (numbered (s .rows) (s .columns) mines) (o .desk .position) ++ o .desk .shown)
+    ++ (twoBv (numbered (s .rows) (s .columns) mines) (o .desk) ++ o .desk .shown)
 
 fresh : Settings → Play
 fresh s = done 0 (freshDesk s)
@@ -122,7 +122,7 @@ table =
     (3 ∷ 2 ∷ 0 ∷ 1 ∷ 1 ∷ 1 ∷ 1 ∷ 1 ∷ 1 ∷ 1 ∷ 1 ∷ 2 ∷ 3 ∷ 0 ∷ 11 ∷ 1 ∷ 1 ∷ 1 ∷ []) (pos 0 ∷ pos 0 ∷ pos 0 ∷ []) (0 ∷ 1 ∷ 0 ∷ 0 ∷ 2 ∷ [])
     -- 3×3, mine (2,2); open (1,1), flag (2,0), mr (1,1): 4, rows 0 0 0 / 0 1 1 / 14 1 15, solved_chord 1
     ∷ row 3 (size 3 3 0 false) (2 ∷ 2 ∷ []) (open′ 1 1 (flag′ 2 0 (event 6 1 1 [])))
-    (4 ∷ 3 ∷ 0 ∷ 1 ∷ 1 ∷ 1 ∷ 1 ∷ 0 ∷ 1 ∷ 1 ∷ 0 ∷ 1 ∷ 1 ∷ 0 ∷ 0 ∷ 0 ∷ 0 ∷ 0 ∷ 1 ∷ 1 ∷ 14 ∷ 1 ∷ 15 ∷ []) (pos 1 ∷ pos 1 ∷ pos 1 ∷ []) (0 ∷ 1 ∷ 0 ∷ 0 ∷ 6 ∷ [])
+    (4 ∷ 3 ∷ 0 ∷ 1 ∷ 1 ∷ 1 ∷ 1 ∷ 0 ∷ 1 ∷ 1 ∷ 0 ∷ 1 ∷ 1 ∷ 1 ∷ 0 ∷ 0 ∷ 0 ∷ 0 ∷ 1 ∷ 1 ∷ 14 ∷ 1 ∷ 15 ∷ []) (pos 1 ∷ pos 1 ∷ pos 1 ∷ []) (0 ∷ 1 ∷ 0 ∷ 0 ∷ 6 ∷ [])
     -- 1×3, mine (0,0), mode 11; open (0,1), flag (0,2), mr (0,0): answer 0, Loss, 15 1 14, dce 0
     ∷ row 4 (size 1 3 11 false) (0 ∷ 0 ∷ []) (open′ 0 1 (flag′ 0 2 (event 6 0 0 [])))
     (0 ∷ 3 ∷ 0 ∷ 1 ∷ 1 ∷ 1 ∷ 1 ∷ 0 ∷ 0 ∷ 1 ∷ 0 ∷ 0 ∷ 1 ∷ 1 ∷ 15 ∷ 1 ∷ 14 ∷ []) (pos 1 ∷ []) (0 ∷ 1 ∷ 0 ∷ 0 ∷ 0 ∷ [])
@@ -160,12 +160,21 @@ table =
     -- a flag beside which a cell is opened: 1×6, mines (0,0) and (0,3), mode 13; open (0,1), flag (0,0): the chord pass opens (0,2)
     ∷ row 17 (size 1 6 13 false) (0 ∷ 0 ∷ 0 ∷ 3 ∷ []) (open′ 0 1 (flag′ 0 0 []))
     (0 ∷ 1 ∷ 0 ∷ 1 ∷ 1 ∷ 0 ∷ 1 ∷ 1 ∷ 0 ∷ 2 ∷ 1 ∷ 1 ∷ 3 ∷ 1 ∷ 11 ∷ 1 ∷ 1 ∷ 11 ∷ 10 ∷ 10 ∷ []) (pos 0 ∷ pos 0 ∷ []) (0 ∷ 1 ∷ 1 ∷ 0 ∷ [])
+    -- the game of row 16 before its last open: the opening is counted, and still left to solve
+    ∷ row 18 (size 1 3 0 false) [] (flag′ 0 0 (flag′ 0 2 (open′ 0 1 (flag′ 0 0 (flag′ 0 2 (open′ 0 0 []))))))
+    (2 ∷ 1 ∷ 0 ∷ 2 ∷ 4 ∷ 0 ∷ 2 ∷ 0 ∷ 0 ∷ 0 ∷ 1 ∷ 0 ∷ 1 ∷ 1 ∷ 0 ∷ 0 ∷ 10 ∷ []) [] (0 ∷ 0 ∷ 0 ∷ 0 ∷ 0 ∷ 1 ∷ 0 ∷ 0 ∷ 0 ∷ 0 ∷ 0 ∷ 1 ∷ [])
+    -- an opening counted twice with a question mark, and a number left; 1×5, mine (0,3), questions on: question on (0,0), open (0,1), question off, open (0,0)
+    ∷ row 19 (size 1 5 0 true) (0 ∷ 3 ∷ []) (flag′ 0 0 (flag′ 0 0 (open′ 0 1 (flag′ 0 0 (open′ 0 0 [])))))
+    (2 ∷ 1 ∷ 0 ∷ 2 ∷ 3 ∷ 0 ∷ 2 ∷ 0 ∷ 0 ∷ 0 ∷ 2 ∷ 0 ∷ 2 ∷ 1 ∷ 0 ∷ 0 ∷ 1 ∷ 10 ∷ 10 ∷ []) (pos 1 ∷ []) (0 ∷ 0 ∷ 0 ∷ 0 ∷ 0 ∷ 2 ∷ 0 ∷ 0 ∷ 0 ∷ 1 ∷ [])
+    -- 0 left is no Win: a number beside a 0 keeps nothing; 1×3, mine (0,2): flag (0,1), open (0,0)
+    ∷ row 20 (size 1 3 0 false) (0 ∷ 2 ∷ []) (flag′ 0 1 (open′ 0 0 []))
+    (2 ∷ 1 ∷ 0 ∷ 1 ∷ 1 ∷ 0 ∷ 1 ∷ 0 ∷ 0 ∷ 1 ∷ 1 ∷ 0 ∷ 1 ∷ 0 ∷ 0 ∷ 11 ∷ 10 ∷ []) [] (0 ∷ 0 ∷ 0 ∷ 1 ∷ [])
     ∷ []
 
 pub positions : wrongRows table ≡ []
-unfolding wrongRows same eqz remaindersIn played last openedFrom countShown ends told fresh table row size open′ flag′ event count every inOrder stackOf below rounds mouseAt sizeOk ninth cellBefore neighbour
-    around pushed zeroAt loneAt mineOk listedMine numberedAt numbered numberingRefusal bitAt withBit shownAfter stackAfter hitAfter run crossed refreshed freeAt
-    kind walk walkFrom judgedLeft judgeOne tally openingsJudged lones total3bv isWon ended solvesLeft leftOpens leftClick bitsWith addsRce takeBack
+unfolding wrongRows same eqz remaindersIn played last openedFrom countShown ends told fresh table row size open′ flag′ event count every inOrder stackOf rounds mouseAt sizeOk ninth cellBefore neighbour
+    around cellsIf pushed zeroAt loneAt mineOk listedMine numberedAt numbered numberingRefusal bitAt withBit shownAfter stackAfter hitAfter run crossed refreshed freeAt
+    kind walk walkFrom judgedLeft judgeOne tally openingsJudged lones bvOf total3bv notOpenAt leftToSolve isWon ended solvesLeft leftOpens leftClick bitsWith addsRce takeBack
     chordIsUseful chordOpens performChord allClosed ripeAt listed flagOne flagAll flagRound flagPass chordOne chordScan chordRound chordPass bothRound bothPass
     passesAfterFlag passesAfterChord rightClick chordingClick mouseTable nextMouse moved bothDown resolved flipped seenAt leftAt rightAt chordAt chordFrom
     playLc playLr playRc playRr playing preFlag readyLc readyRc ready preLeft preLr preCell preRight preRc preFlaging byGame pointerOf eventOf errsPlaying

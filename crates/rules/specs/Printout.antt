@@ -78,10 +78,10 @@ nineCounts p =
     ∷ p .secrets .«solved_left» ∷ p .secrets .«solved_chord» ∷ []
 
 -- bv: total, left to solve
-abbrev pub twoBv : List ℤ → Position → List ℕ
-twoBv B p =
-    total3bv B (p .settings .rows) (p .settings .columns)
-    ∷ leftToSolve (total3bv B (p .settings .rows) (p .settings .columns)) (p .secrets .«solved_left») (p .secrets .«solved_chord») ∷ []
+abbrev pub twoBv : List ℤ → Desk → List ℕ
+twoBv B d =
+    total3bv B (d .position .settings .rows) (d .position .settings .columns)
+    ∷ leftToSolve B (d .position .settings .rows) (d .position .settings .columns) (d .shown) ∷ []
 
 -- the shown rows
 unfoldable pub rowLines : ℕ → ℕ → List ℕ → List ℕ
@@ -94,7 +94,7 @@ rowLines (suc n) C shown = lineOf (take C shown) ++ rowLines n C (drop C shown)
 abbrev pub endLines : List ℤ → Desk → List ℕ
 endLines B d =
     wordLine wordCounts (nineCounts (d .position))
-    ++ (wordLine wordBv (twoBv B (d .position)) ++ rowLines (d .position .settings .rows) (d .position .settings .columns) (d .shown))
+    ++ (wordLine wordBv (twoBv B d) ++ rowLines (d .position .settings .rows) (d .position .settings .columns) (d .shown))
 
 -- the board of a book, and its fresh desk
 abbrev pub bookBoard : List ℕ → Book → List ℤ

@@ -44,11 +44,6 @@ unfoldable pub stackOf : List ℕ → ℕ → List ℕ
 stackOf w zero = []
 stackOf w (suc n) = getD w n 0 ∷ stackOf w n
 
--- the numbers below n as a stack, the last of them on top
-unfoldable pub below : ℕ → List ℕ
-below zero = []
-below (suc n) = n ∷ below n
-
 -- a step, and again while the last one says that there is more to do, at most so many times
 unfoldable pub rounds : {A : Type 0} → (A → A) → (A → Bool) → ℕ → A → A
 rounds step more zero s = s

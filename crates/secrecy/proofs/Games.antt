@@ -8,7 +8,7 @@ use lib.IntN.{ℤ, pos}
 use lib.Dec.{leb, eqb}
 use borrow.Author.Tests.{eqb-true, eq-eqb, le-leb}
 use Rattle.rules.specs.declared.Settings.{Settings}
-use Rattle.rules.specs.Words.{count, every, inOrder, stackOf, below, rounds}
+use Rattle.rules.specs.Words.{count, every, inOrder, stackOf, rounds}
 use Rattle.rules.specs.States.{gameNumber, mouseAt}
 use Rattle.rules.specs.Grid.{sizeOk, ninth, cellBefore, neighbour, around, pushed}
 use Rattle.rules.specs.Board.{faceAt, zeroAt, loneAt, valuesOk, numberOk, numbersOk, someSafe, boardRefusal, boardCheck}
@@ -180,7 +180,7 @@ pub record Games : Type 0 where
   pub kept : Kept
 
 pub games : Games
-unfolding last-seen heard sums countShown seenAll playsOn lastDesk count every inOrder stackOf below rounds mouseAt sizeOk ninth cellBefore neighbour around pushed zeroAt loneAt valuesOk numberOk numbersOk someSafe boardRefusal boardCheck bitAt withBit shownAfter stackAfter
+unfolding last-seen heard sums countShown seenAll playsOn lastDesk count every inOrder stackOf rounds mouseAt sizeOk ninth cellBefore neighbour around pushed zeroAt loneAt valuesOk numberOk numbersOk someSafe boardRefusal boardCheck bitAt withBit shownAfter stackAfter
     hitAfter run crossed refreshed freeAt kind walk walkFrom judgedLeft judgeOne tally openingsJudged lones isWon ended solvesLeft leftOpens leftClick bitsWith
     addsRce takeBack chordIsUseful chordOpens performChord allClosed ripeAt listed flagOne flagAll flagRound flagPass chordOne chordScan chordRound chordPass
     bothRound bothPass passesAfterFlag passesAfterChord rightClick chordingClick mouseTable nextMouse moved bothDown resolved flipped seenAt leftAt rightAt

@@ -59,7 +59,6 @@ plays-few B (code ∷ r ∷ c ∷ es) d = go (leb 20 (stepOn B code r c d .answe
 -- the end, with the 3BV's numbers
 pub end-same : (B : List ℤ) (d : Desk)
     → endText (d .position) (total3bv B (d .position .settings .rows) (d .position .settings .columns))
-    (leftToSolve (total3bv B (d .position .settings .rows) (d .position .settings .columns)) (d .position .secrets .«solved_left») (d .position .secrets .«solved_chord»))
-    (d .shown)
+    (leftToSolve B (d .position .settings .rows) (d .position .settings .columns) (d .shown)) (d .shown)
     ≡ endLines B d
 end-same B d = refl

@@ -1,9 +1,8 @@
--- `calls::left_to_solve` meets its contract: the sum fits, since the position is lawful.
-use borrow.Author.Needs.{needs}
-use Rattle.rules.specs.Clicks.{desk}
-use Rattle.refusals.proofs.Refusals.{lent-mined, lent-solved}
+-- `calls::left_to_solve` meets its contract.
+use Rattle.refusals.proofs.Refusals.{lent-mined}
 use Rattle.refusals.proofs.Faults.{lent-placeable}
 use Rattle.calls.proofs.Making.{left-refused, left-answered}
+use borrow.Author.Needs.{needs}
 use Rattle.calls.proofs.left_to_solve.Statement.{statement}
 use Rattle.calls.proofs.left_to_solve.Tie as tie
 
@@ -19,14 +18,8 @@ same-length c = search needs
 returns : tie.Need-returns
 returns c = left-refused _ _ _ _ (c .before .before .lent-refusal .ensures) _ (c .before .if1 .taken) (c .refuse .ensures)
 
-total-on-requires : tie.Need-total-on-requires
-total-on-requires c κs = lent-mined _ _ _ _ (c .before .before .lent-refusal .ensures) (c .before .if1 .left)
-
-solved-requires : tie.Need-solved-requires
-solved-requires c κs = lent-solved _ (desk (c .before .before .before .before .before .before .before .before .before .before .args .p) (c .before .before .before .before .before .before .before .before .before .before .args .shown .now) (c .before .before .before .before .before .before .before .before .before .before .args .bits .now)) _ _ (c .before .before .before .before .before .lent-refusal .ensures) (c .before .before .before .before .if1 .left)
-
-minus-requires : tie.Need-minus-requires
-minus-requires c κs = search needs
+left-on-requires : tie.Need-left-on-requires
+left-on-requires c κs = lent-mined _ _ _ _ (c .before .before .lent-refusal .ensures) (c .before .if1 .left)
 
 answer-requires : tie.Need-answer-requires
 answer-requires c κs = search needs
@@ -35,7 +28,7 @@ same-length-2 : tie.Need-same-length-2
 same-length-2 c = search needs
 
 returns-2 : tie.Need-returns-2
-returns-2 c = left-answered _ _ _ _ (c .before .before .before .before .before .before .before .before .lent-refusal .ensures) _ _ _ _ _ (c .before .before .before .before .before .before .before .if1 .left) (c .before .before .before .before .before .total-on .ensures) (c .before .before .solved .ensures) (c .before .minus .ensures) (c .answer .ensures)
+returns-2 c = left-answered _ _ _ _ (c .before .before .before .before .before .before .lent-refusal .ensures) _ _ _ (c .before .before .before .before .before .if1 .left) (c .before .before .before .left-on .ensures) (c .answer .ensures)
 
 pub left-to-solve-spec : {M : Type 1} → statement M
 left-to-solve-spec =
@@ -45,9 +38,7 @@ left-to-solve-spec =
     refuse-requires
     same-length
     returns
-    total-on-requires
-    solved-requires
-    minus-requires
+    left-on-requires
     answer-requires
     same-length-2
     returns-2)

@@ -1,4 +1,4 @@
--- `calls::total_3bv` meets its contract.
+-- `calls::total_3bv` meets its contract: where nothing is shown, all is left to solve.
 use mathlib.Core.Path.{sym, _∙_}
 use Rattle.refusals.proofs.Refusals.{total-mined}
 use Rattle.refusals.proofs.Faults.{total-placeable}
@@ -19,14 +19,17 @@ same-length c = search needs
 returns : tie.Need-returns
 returns c = total-refused _ _ _ _ _ (c .before .before .total-refusal .ensures) _ (c .before .if1 .taken) (c .found .ensures)
 
-total-on-requires : tie.Need-total-on-requires
-total-on-requires c κs = total-mined _ _ _ _ (sym (c .before .before .total-refusal .ensures) ∙ c .before .if1 .left)
+slice-aggregate-left-on : tie.Need-slice-aggregate-left-on
+slice-aggregate-left-on c = search needs
+
+left-on-requires : tie.Need-left-on-requires
+left-on-requires c κs = total-mined _ _ _ _ (sym (c .before .before .before .total-refusal .ensures) ∙ c .before .before .if1 .left)
 
 same-length-2 : tie.Need-same-length-2
 same-length-2 c = search needs
 
 returns-2 : tie.Need-returns-2
-returns-2 c = total-answered _ _ _ _ _ (c .before .before .before .before .before .total-refusal .ensures) _ _ (c .before .before .before .before .if1 .left) (c .before .before .total-on .ensures)
+returns-2 c = total-answered _ _ _ _ _ (c .before .before .before .before .before .before .total-refusal .ensures) _ _ (c .before .before .before .before .before .if1 .left) (c .before .before .left-on .ensures)
 
 pub total-3bv-spec : {M : Type 1} → statement M
 total-3bv-spec =
@@ -36,6 +39,7 @@ total-3bv-spec =
     found-requires
     same-length
     returns
-    total-on-requires
+    slice-aggregate-left-on
+    left-on-requires
     same-length-2
     returns-2)

@@ -1,54 +1,21 @@
--- `judging::total_3bv`: both counts added up, the work cleared in between.
-use native.Mathlib.Omega.{arith}
-use Rattle.judging.proofs.Tallying.{cleared, board-few, total-is}
+-- `judging::total_3bv`: where nothing is shown, all is left to solve.
 use borrow.Author.Needs.{needs}
+use Rattle.judging.proofs.Solving.{total-left}
 use Rattle.judging.proofs.total_3bv.Statement.{statement}
 use Rattle.judging.proofs.total_3bv.Tie as tie
 
-slice-aggregate-judge-board : tie.Need-slice-aggregate-judge-board
-slice-aggregate-judge-board c = search needs
+slice-aggregate-left-to-solve : tie.Need-slice-aggregate-left-to-solve
+slice-aggregate-left-to-solve c = search needs
 
-judge-board-requires : tie.Need-judge-board-requires
-judge-board-requires c κs = search needs
-
-mul-clear : tie.Need-mul-clear
-mul-clear c = search needs
-
-mul-clear-2 : tie.Need-mul-clear-2
-mul-clear-2 c = search needs
-
-add-clear : tie.Need-add-clear
-add-clear c = search needs
-
-clear-requires : tie.Need-clear-requires
-clear-requires c κs = search needs
-
-lone-board-requires : tie.Need-lone-board-requires
-lone-board-requires c κs = search needs
-
-add-result : tie.Need-add-result
-add-result c = omega (arith, board-few _ _ _ _ _ _ _ _ (c .before .before .before .before .before .before .before .before .judge-board .ensures), c .before .lone-board .ensures .few, c .before .before .before .before .before .before .before .before .before .before .before .before .pre .0 .sized .cells)
+left-to-solve-requires : tie.Need-left-to-solve-requires
+left-to-solve-requires c κs = search needs
 
 same-length : tie.Need-same-length
 same-length c = search needs
 
 returns : tie.Need-returns
-returns c = record {
-  outcome = total-is _ _ _ _ _ _ _ (c .before .before .before .before .before .before .before .before .judge-board .ensures) (c .before .lone-board .ensures);
-  same = cleared _ _ _ _ (c .before .before .before .before .before .before .before .before .before .before .before .before .pre .1 .1) (c .before .before .before .before .before .before .before .before .judge-board .ensures .rest) (c .before .before .before .before .before .before .before .before .judge-board .ensures .long) (c .before .before .before .before .clear .ensures) (c .before .before .before .before .clear .kept .0);
-}
+returns c = total-left _ _ _ (c .before .before .left-to-solve .ensures)
 
 pub total-3bv-spec : {M : Type 1} → statement M
 total-3bv-spec =
-    tie.close
-    (tie.spec
-    slice-aggregate-judge-board
-    judge-board-requires
-    mul-clear
-    mul-clear-2
-    add-clear
-    clear-requires
-    lone-board-requires
-    add-result
-    same-length
-    returns)
+    tie.close (tie.spec slice-aggregate-left-to-solve left-to-solve-requires same-length returns)

@@ -1,7 +1,8 @@
--- `printing::finish` meets its contract: the total is that of the board, and left to solve comes from it.
+-- `printing::finish` meets its contract: the total and what is left to solve are those of the board, and the work comes back from both.
+use mathlib.Core.Path.{refl, _∙_}
 use native.Mathlib.Omega.{arith}
+use Rattle.printing.proofs.Ending.{ending-asks, total-small, left-small, ending-put}
 use borrow.Author.Needs.{needs}
-use Rattle.printing.proofs.Ending.{ending-asks, ending-small, ending-put}
 use Rattle.printing.proofs.finish.Statement.{statement}
 use Rattle.printing.proofs.finish.Tie as tie
 
@@ -12,13 +13,16 @@ wide-requires-2 : tie.Need-wide-requires-2
 wide-requires-2 c κs = search needs
 
 total-3bv-requires : tie.Need-total-3bv-requires
-total-3bv-requires c κs = ending-asks _ (c .before .before .before .before .before .before .args .p) (c .before .before .wide .ensures .0) (c .before .wide2 .ensures .0) (c .before .before .before .before .before .before .pre .0) (c .before .before .before .before .before .before .pre .1 .0)
+total-3bv-requires c κs = let pre = (c .before .before .before .before .before .before .pre) in ending-asks _ (c .before .before .before .before .before .before .args .p) (c .before .before .wide .ensures .0) (c .before .wide2 .ensures .0) refl (pre .0) (pre .1 .0)
 
-cast-total : tie.Need-cast-total
-cast-total c = let h = ending-small _ (c .before .before .before .before .before .before .before .before .before .args .p) (c .before .before .before .before .before .wide .ensures .0) (c .before .before .before .before .wide2 .ensures .0) (c .before .before .before .before .before .before .before .before .before .pre .0) (c .before .before .total-3bv .ensures) in omega (arith, h)
+left-to-solve-requires : tie.Need-left-to-solve-requires
+left-to-solve-requires c κs = let pre = (c .before .before .before .before .before .before .before .before .before .before .pre) in ending-asks _ (c .before .before .before .before .before .before .before .before .before .before .args .p) (c .before .before .before .before .before .before .wide .ensures .0) (c .before .before .before .before .before .wide2 .ensures .0) (c .before .before .before .total-3bv .ensures .same) (pre .0) (pre .1 .0)
 
-left-of-requires : tie.Need-left-of-requires
-left-of-requires c κs = search needs
+cast-put-end : tie.Need-cast-put-end
+cast-put-end c = let small = total-small _ (c .before .before .before .before .before .before .before .before .before .before .before .before .before .before .args .p) (c .before .before .before .before .before .before .before .before .before .before .wide .ensures .0) (c .before .before .before .before .before .before .before .before .before .wide2 .ensures .0) (c .before .before .before .before .before .before .before .before .before .before .before .before .before .before .pre .0) (c .before .before .before .before .before .before .before .total-3bv .ensures) in omega (arith, small)
+
+cast-put-end-2 : tie.Need-cast-put-end-2
+cast-put-end-2 c = let small = left-small _ (c .before .before .before .before .before .before .before .before .before .before .before .before .before .before .args .p) (c .before .before .before .before .before .before .before .before .before .before .wide .ensures .0) (c .before .before .before .before .before .before .before .before .before .wide2 .ensures .0) _ (c .before .before .before .before .before .before .before .before .before .before .before .before .before .before .pre .0) (c .before .before .before .left-to-solve .ensures) in omega (arith, small)
 
 put-end-requires : tie.Need-put-end-requires
 put-end-requires c κs = search needs
@@ -30,7 +34,8 @@ same-length-2 : tie.Need-same-length-2
 same-length-2 c = search needs
 
 returns : tie.Need-returns
-returns c = record { put = ending-put _ (c .before .before .before .before .before .before .before .before .before .before .before .before .before .before .args .p) (c .before .before .before .before .before .before .before .before .before .before .wide .ensures .0) (c .before .before .before .before .before .before .before .before .before .wide2 .ensures .0) (c .before .before .before .before .before .before .before .before .before .before .before .before .before .before .args .shown .now) (c .before .before .before .before .before .before .before .total-3bv .ensures) (c .before .before .before .before .left-of .ensures) (c .before .before .put-end .ensures); same = c .before .before .before .before .before .before .before .total-3bv .ensures .same }
+returns c = let a = (c .before .before .before .before .before .before .before .before .before .before .before .before .before .before .before .before .before .args) in let rows = c .before .before .before .before .before .before .before .before .before .before .before .before .before .wide .ensures .0 in let columns = c .before .before .before .before .before .before .before .before .before .before .before .before .wide2 .ensures .0 in let total = c .before .before .before .before .before .before .before .before .before .before .total-3bv .ensures in let left = c .before .before .before .before .before .before .left-to-solve .ensures in
+    record { put = ending-put _ (a .p) rows columns (a .shown .now) total left (c .before .before .put-end .ensures); same = left .same ∙ total .same }
 
 pub finish-spec : {M : Type 1} → statement M
 finish-spec =
@@ -39,8 +44,9 @@ finish-spec =
     wide-requires
     wide-requires-2
     total-3bv-requires
-    cast-total
-    left-of-requires
+    left-to-solve-requires
+    cast-put-end
+    cast-put-end-2
     put-end-requires
     same-length
     same-length-2
