@@ -1,4 +1,4 @@
-// The oracle's subcommands: the Rust as the judge of books, positions and single steps.
+// The oracle's subcommands: the Rust as the judge of books, positions and single steps; and pictures.
 
 mod board;
 mod book;
@@ -10,6 +10,8 @@ mod lawful;
 mod layout;
 mod packed;
 mod packed_steps;
+mod picture;
+mod pictures;
 mod player;
 mod position;
 mod positions;
@@ -32,7 +34,10 @@ const USAGE: &str = "usage:
   oracle pick NUMBER                 packed books on standard input: the one of this number, from 1
   oracle steps SEED COUNT [START]    packed single steps from positions: lawful or spoiled
   oracle outcomes [--whole]          packed steps on standard input: a line of the outcome of each, or of the whole
-  oracle coverage SEED COUNT [KIND]  what such books reach";
+  oracle coverage SEED COUNT [KIND]  what such books reach
+  oracle draws                       packed books on standard input: their pictures
+  oracle pictures SEED COUNT         packed pictures, many of them damaged
+  oracle views                       packed pictures on standard input: what is printed of each";
 
 type Outcome = Result<bool, String>;
 
@@ -64,6 +69,9 @@ fn run(words: &[&str]) -> Outcome {
         ["outcomes", "--whole"] => outcomes(Step::whole_line),
         ["coverage", seed, count] => cover(number(seed)?, number(count)?, Kind::Mixed),
         ["coverage", seed, count, kind] => cover(number(seed)?, number(count)?, kind_named(kind)?),
+        ["draws"] => answers(picture::draw),
+        ["pictures", seed, count] => write_pictures(number(seed)?, number(count)?),
+        ["views"] => answers(picture::view),
         _ => Err(USAGE.into()),
     }
 }
@@ -84,6 +92,14 @@ fn write_books(seed: u64, count: u64, kind: Kind) -> Outcome {
     let mut packed = Vec::new();
     for number in 0..count {
         packed::pack(&mut packed, &books::book(seed, number, kind));
+    }
+    write(&packed)
+}
+
+fn write_pictures(seed: u64, count: u64) -> Outcome {
+    let mut packed = Vec::new();
+    for number in 0..count {
+        packed::pack(&mut packed, &pictures::picture(seed, number));
     }
     write(&packed)
 }

@@ -12,7 +12,7 @@ use Rattle.rules.specs.Lent.{workRoom, workAfter}
 use Rattle.rules.specs.Clicks.{Desk, desk, done}
 use Rattle.rules.specs.Calls.{plays, lastPlay, cellsIn}
 use Rattle.rules.specs.Book.{bookOf, minesOf, eventsOf, partOf}
-use Rattle.rules.specs.Printout.{gameLine, eventLines, endLines, bookBoard, bookDesk, printoutBy, printoutOf}
+use Rattle.rules.specs.Printout.{gameLine, eventLines, endLines, bookBoard, bookDesk, bookEnd, printoutBy, printoutOf}
 use Rattle.cells.specs.Ground.{Mined}
 use Rattle.keep.specs.Kept.{LawfulAt, Follows}
 use Rattle.keep.proofs.Step.{plays-follow}
@@ -26,7 +26,7 @@ use Rattle.writing.proofs.Putting.{put-then, put-as, put-length}
 use Rattle.text.specs.Rows.{RowsFit}
 use Rattle.text.proofs.Printed.{printout-played}
 use Rattle.games.specs.declared.Told.{Told}
-use Rattle.printing.specs.Boards.{Begun, Ended, bookEnd}
+use Rattle.printing.specs.Boards.{Begun, Ended}
 use Rattle.games.specs.Events.{EventsFit, EventsPrinted, GamePrinted}
 use Rattle.cells.proofs.Filling.{cleared-zeros}
 use Rattle.printing.proofs.Beginning.{book-lawful}

@@ -9,10 +9,9 @@ use Rattle.rules.specs.declared.Position.{Position}
 use Rattle.rules.specs.Lent.{workAfter}
 use Rattle.rules.specs.Clicks.{desk}
 use Rattle.rules.specs.Calls.{plays, cellsIn}
-use Rattle.rules.specs.Printout.{eventLines, bookBoard, printoutOf}
+use Rattle.rules.specs.Printout.{eventLines, bookBoard, bookEnd, printoutOf}
 use Rattle.flows.specs.Runs.{flowOn}
 use Rattle.writing.specs.Put.{Put, PutWithin}
-use Rattle.printing.specs.Boards.{bookEnd}
 use Rattle.games.specs.declared.Told.{Told}
 
 -- whole events, no more than a book may have, and room for a line of 20 bytes for each

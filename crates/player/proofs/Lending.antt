@@ -3,7 +3,6 @@ use mathlib.Core.Path.{_≡_, _∙_, ap, ap₂, sym, refl}
 use mathlib.Core.Bool.{Bool, true, false}
 use mathlib.Core.List.{List, [], _∷_, _++_}
 use Prim.Native.Nat.{ℕ, _+_, _/_, _<_, _≤_}
-use native.Mathlib.Nat.{zero-add}
 use native.Mathlib.Omega.{arith}
 use borrow.Author.Tests.{eq-eqb, ne-eqb, leb-true, ltb-true}
 use lib.Dec.{ltb, leb, eqb}
@@ -11,19 +10,17 @@ use lib.ListN.{length, drop, take, length-append}
 use lib.Seq.{take-at, length-take-le}
 use lib.IntN.{ℤ}
 use Rattle.rules.specs.declared.Book.{Book}
-use Rattle.rules.specs.Words.{pick}
+use Rattle.rules.specs.Words.{pick, over}
 use Rattle.rules.specs.Lent.{workAfter}
-use Rattle.rules.specs.Clicks.{done}
-use Rattle.rules.specs.Calls.{lastPlay, cellsIn}
+use Rattle.rules.specs.Calls.{cellsIn}
 use Rattle.rules.specs.Book.{bookOf}
-use Rattle.rules.specs.Printout.{spaced, wordLine, wordRefused, wordAtPlace, gameLine, eventLines, endLines, bookBoard, bookDesk, bookPlays, printoutBy, printoutOf}
+use Rattle.rules.specs.Printout.{spaced, wordLine, wordRefused, wordAtPlace, gameLine, eventLines, endLines, bookBoard, bookPlays, bookEnd, printoutBy, printoutOf}
 use Rattle.cells.proofs.Words.{and-left, and-right, one}
-use Rattle.writing.specs.Put.{Put, PutWithin}
-use Rattle.writing.proofs.Putting.{put-reads}
+use Rattle.writing.specs.Put.{PutWithin}
+use Rattle.writing.proofs.Putting.{put-over}
 use Rattle.text.specs.Texts.{refusedText}
-use Rattle.printing.specs.Boards.{bookEnd}
 use Rattle.games.specs.Events.{GamePrinted}
-use Rattle.player.specs.Rooms.{textFits, enough, Enough, Printed, printed, over, printedBy, printedOf, PrintBookIs, Written, written, writtenOf, WritePrintoutIs}
+use Rattle.player.specs.Rooms.{textFits, enough, Enough, Printed, printed, printedBy, printedOf, PrintBookIs, Written, written, writtenOf, WritePrintoutIs}
 use Rattle.player.proofs.Refusing.{refused-printed}
 
 -- ---- enough ----------------------------------------------------------------------------------------------------------------------------
@@ -58,9 +55,6 @@ module _ (s : List ℕ) (mines : List ℤ) (shown bits work out : List ℕ) wher
   printed-some e f h = h ∙ rw (sym e ∙ f)
 
 -- ---- a book refused, a book played -----------------------------------------------------------------------------------------------------
-
-put-over : {text out out′ : List ℕ} {r : ℕ} → length text ≤ length out → Put text 0 out out′ r → out′ ≡ over text out
-put-over h p = rw zero-add at (put-reads (record { fits = omega arith }) p)
 
 front-over : {A : Type 0} {front front′ : List A} {n : ℕ} (l : List A) → front ≡ front′ → length front ≡ n → front ++ drop n l ≡ over front′ l
 front-over l e k = ap₂ (λ x m. x ++ drop m l) e (sym k ∙ ap length e)
@@ -100,7 +94,7 @@ module _ (s : List ℕ) (b : Book) (e : b ≡ bookOf s) (mines : List ℤ) (show
 
 -- ---- the text that is handed over ------------------------------------------------------------------------------------------------------
 
-text-by : (s : List ℕ) (b : Book) (mines : List ℤ) (shown bits work out : List ℕ)
+pub text-by : (s : List ℕ) (b : Book) (mines : List ℤ) (shown bits work out : List ℕ)
     → written (printedBy s b mines shown bits work out .answer) (printedBy s b mines shown bits work out .out) ≡ written (length (printoutOf s)) (over (printoutOf s) out)
 unfolding printedBy
 text-by s b mines shown bits work out = go (eqb (b .number) 0)
@@ -164,8 +158,7 @@ unfolding printoutOf printoutBy
 printout-some s = go (eqb (bookOf s .number) 0)
   where
     go : (t : Bool) → 0 < length (pick t
-        (gameLine (bookOf s .settings)
-        ++ (eventLines 1 (bookPlays s (bookOf s)) ++ endLines (bookBoard s (bookOf s)) (lastPlay (done 0 (bookDesk (bookOf s))) (bookPlays s (bookOf s)) .desk)))
+        (gameLine (bookOf s .settings) ++ (eventLines 1 (bookPlays s (bookOf s)) ++ endLines (bookBoard s (bookOf s)) (bookEnd s (bookOf s))))
         (wordRefused ++ (spaced (bookOf s .number ∷ []) ++ wordLine wordAtPlace (bookOf s .place ∷ []))))
     go true = omega arith
     go false = omega arith

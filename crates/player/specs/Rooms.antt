@@ -1,18 +1,17 @@
 -- What is lent to print a book, and what stands there afterwards.
 use mathlib.Core.Path.{_≡_}
 use mathlib.Core.Bool.{Bool, _&&_}
-use mathlib.Core.List.{List, _++_}
+use mathlib.Core.List.{List}
 use Prim.Native.Nat.{ℕ, _<_, _≤_}
 use lib.Dec.{ltb, leb, eqb}
-use lib.ListN.{length, drop}
+use lib.ListN.{length}
 use lib.IntN.{ℤ}
 use Rattle.rules.specs.declared.Book.{Book}
-use Rattle.rules.specs.Words.{pick}
+use Rattle.rules.specs.Words.{pick, over}
 use Rattle.rules.specs.Lent.{workAfter}
 use Rattle.rules.specs.Calls.{cellsIn}
 use Rattle.rules.specs.Book.{bookOf}
-use Rattle.rules.specs.Printout.{bookBoard, printoutOf}
-use Rattle.printing.specs.Boards.{bookEnd}
+use Rattle.rules.specs.Printout.{bookBoard, bookEnd, printoutOf}
 
 -- ---- lengths ---------------------------------------------------------------------------------------------------------------------------
 
@@ -45,10 +44,6 @@ pub record Printed : Type 0 where
 
 abbrev pub printed : ℕ → List ℤ → List ℕ → List ℕ → List ℕ → List ℕ → Printed
 printed r mines shown bits work out = record { answer = r; mines = mines; shown = shown; bits = bits; work = work; out = out }
-
--- a list written over the front of another
-abbrev pub over : {A : Type 0} → List A → List A → List A
-over front l = front ++ drop (length front) l
 
 -- the printout stands at the front of `out`. An accepted book's boards stand at the front of the others, as its last event left them, and the work of
 -- its cells is 0; a refused book touches none of these

@@ -68,26 +68,32 @@ pub fn print_book(
     print_lent(s, mines, shown, bits, work, out)
 }
 
-// Room for one book: boards, bits and work for 2,048 cells, and every printout.
-fn mine_board() -> [i8; 2048]
+// Room for one book: one byte more than the longest has; boards, bits and work for 2,048 cells; every printout.
+pub fn book_buffer() -> [u8; 28680]
+    ensures { λ r. ⌜ 28680 ≡ length r ⌝ }
+{
+    [0; 28680]
+}
+
+pub fn mine_board() -> [i8; 2048]
     ensures { λ r. ⌜ 2048 ≡ length r ⌝ }
 {
     [0; 2048]
 }
 
-fn shown_board() -> [u8; 2048]
+pub fn shown_board() -> [u8; 2048]
     ensures { λ r. ⌜ 2048 ≡ length r ⌝ }
 {
     [0; 2048]
 }
 
-fn flag_bits() -> [u8; 256]
+pub fn flag_bits() -> [u8; 256]
     ensures { λ r. ⌜ 256 ≡ length r ⌝ }
 {
     [0; 256]
 }
 
-fn work_room() -> [u16; 16392]
+pub fn work_room() -> [u16; 16392]
     ensures { λ r. ⌜ 16392 ≡ length r ⌝ }
 {
     [0; 16392]

@@ -8,9 +8,9 @@ use Rattle.rules.specs.declared.Book.{Book}
 use Rattle.rules.specs.declared.Settings.{Settings}
 use Rattle.rules.specs.declared.Position.{Position}
 use Rattle.rules.specs.Lent.{bitBytes, workRoom}
-use Rattle.rules.specs.Clicks.{Desk, desk, done}
-use Rattle.rules.specs.Calls.{lastPlay, cellsIn}
-use Rattle.rules.specs.Printout.{bookBoard, bookDesk, bookPlays}
+use Rattle.rules.specs.Clicks.{desk}
+use Rattle.rules.specs.Calls.{cellsIn}
+use Rattle.rules.specs.Printout.{bookBoard, bookDesk}
 use Rattle.writing.specs.Put.{PutWithin}
 
 -- the boards have the lengths of the settings, and the work its room
@@ -25,10 +25,6 @@ pub record Begun (s : List ℕ) (b : Book) (work : List ℕ) (p : Position) (min
   pub board : mines ≡ bookBoard s b
   pub fresh : desk p shown bits ≡ bookDesk b
   pub blank : work′ ≡ replicate (workRoom (cellsIn (b .settings))) 0 ++ drop (workRoom (cellsIn (b .settings))) work
-
--- the desk after a book's last event
-abbrev pub bookEnd : List ℕ → Book → Desk
-bookEnd s b = lastPlay (done 0 (bookDesk b)) (bookPlays s b) .desk
 
 -- the text was written, and the work came back as it was lent
 pub record Ended (most : ℕ) (text : List ℕ) (at : ℕ) (out out′ : List ℕ) (r : ℕ) (work work′ : List ℕ) : Type 0 where

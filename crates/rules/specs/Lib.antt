@@ -14,4 +14,5 @@ pub mod Calls
 pub mod Promises
 pub mod Book
 pub mod Printout
+pub mod Picture
 pub mod Positions

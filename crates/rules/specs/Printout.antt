@@ -107,11 +107,14 @@ bookDesk b = freshDesk (b .settings)
 abbrev pub bookPlays : List ℕ → Book → List Play
 bookPlays s b = plays (bookBoard s b) (eventsOf s b) (bookDesk b)
 
+-- the desk after a book's last event
+abbrev pub bookEnd : List ℕ → Book → Desk
+bookEnd s b = lastPlay (done 0 (bookDesk b)) (bookPlays s b) .desk
+
 unfoldable pub printoutBy : List ℕ → Book → List ℕ
 printoutBy s b =
     pick (eqb (b .number) 0)
-    (gameLine (b .settings)
-    ++ (eventLines 1 (bookPlays s b) ++ endLines (bookBoard s b) (lastPlay (done 0 (bookDesk b)) (bookPlays s b) .desk)))
+    (gameLine (b .settings) ++ (eventLines 1 (bookPlays s b) ++ endLines (bookBoard s b) (bookEnd s b)))
     (wordRefused ++ (spaced (b .number ∷ []) ++ wordLine wordAtPlace (b .place ∷ [])))
 
 -- THE printout; a refused book prints only `refused N at P`

@@ -2,7 +2,7 @@
 use mathlib.Core.Bool.{Bool, true, false, _&&_}
 use mathlib.Core.List.{List, [], _∷_, _++_}
 use Prim.Native.Nat.{ℕ, zero, suc, _+_}
-use lib.ListN.{getD}
+use lib.ListN.{length, getD, drop}
 
 -- the first where the test holds, else the second
 abbrev pub pick : {A : Type 0} → Bool → A → A → A
@@ -38,6 +38,10 @@ firstNot f (suc n) = pick (every f n) (n + bit (f n)) (firstNot f n)
 unfoldable pub inOrder : {A : Type 0} → (ℕ → A) → ℕ → List A
 inOrder f zero = []
 inOrder f (suc n) = inOrder f n ++ (f n ∷ [])
+
+-- a list written over the front of another, whose rest stays
+abbrev pub over : {A : Type 0} → List A → List A → List A
+over front l = front ++ drop (length front) l
 
 -- the first n entries of a list as a stack, the last of them on top
 unfoldable pub stackOf : List ℕ → ℕ → List ℕ

@@ -128,6 +128,13 @@ pub struct Book {
     pub events: usize,
 }
 
+// What a picture says: its rows and its columns; or the first fault.
+pub struct Picture {
+    pub number: u16,
+    pub rows: u8,
+    pub columns: u8,
+}
+
 pub fn game_number(g: GameState) -> u8
     ensures { λ r. ⌜ r ≡ gameNumber g ⌝ }
 {

@@ -11,10 +11,10 @@ use borrow.Author.Tests.{eq-eqb, ne-eqb}
 use Rattle.rules.specs.declared.Book.{Book}
 use Rattle.rules.specs.Words.{pick}
 use Rattle.rules.specs.Judging.{total3bv, leftToSolve}
-use Rattle.rules.specs.Clicks.{Desk, Play, done}
-use Rattle.rules.specs.Calls.{plays, lastPlay}
+use Rattle.rules.specs.Clicks.{Desk, Play}
+use Rattle.rules.specs.Calls.{plays}
 use Rattle.rules.specs.Step.{stepOn}
-use Rattle.rules.specs.Printout.{gameLine, eventLine, eventLines, endLines, bookBoard, bookDesk, bookPlays, printoutBy}
+use Rattle.rules.specs.Printout.{gameLine, eventLine, eventLines, endLines, bookBoard, bookPlays, bookEnd, printoutBy}
 use Rattle.text.specs.Texts.{refusedText, endText}
 
 first-of : {t : Bool} (x y : List ℕ) → t ≡ true → pick t x y ≡ x
@@ -30,7 +30,7 @@ printout-refused s b h = second-of _ _ (ne-eqb (b .number) 0 h)
 
 -- a book that is played
 pub printout-played : (s : List ℕ) (b : Book) → b .number ≡ 0
-    → printoutBy s b ≡ gameLine (b .settings) ++ (eventLines 1 (bookPlays s b) ++ endLines (bookBoard s b) (lastPlay (done 0 (bookDesk b)) (bookPlays s b) .desk))
+    → printoutBy s b ≡ gameLine (b .settings) ++ (eventLines 1 (bookPlays s b) ++ endLines (bookBoard s b) (bookEnd s b))
 unfolding printoutBy
 printout-played s b h = first-of _ _ (eq-eqb (b .number) 0 h)
 

@@ -23,7 +23,7 @@ unfolding digits
 digits-more f n more h = simp (le-ltb n 10 h)
 
 -- what holds of the numbers below 10 and of the others holds of all
-small-or-not : {P : Type 0} (n : ℕ) → (n < 10 → P) → (10 ≤ n → P) → P
+pub small-or-not : {P : Type 0} (n : ℕ) → (n < 10 → P) → (10 ≤ n → P) → P
 small-or-not {P} n small large = go (ltb n 10) refl
   where
     go : (b : Bool) → ltb n 10 ≡ b → P

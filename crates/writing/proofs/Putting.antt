@@ -4,9 +4,10 @@ use mathlib.Core.List.{List, [], _∷_, _++_, append-assoc}
 use Prim.Native.Nat.{ℕ, suc, _+_, _<_, _≤_}
 use native.Mathlib.Omega.{arith}
 use native.Mathlib.Numerals.{add-one}
-use native.Mathlib.Nat.{add-zero, add-suc, suc-add}
+use native.Mathlib.Nat.{add-zero, zero-add, add-suc, suc-add}
 use lib.ListN.{length, getD, drop, take, length-append, drop-of-length-le}
 use lib.Seq.{sets, length-sets, sets-eq, drop-cons, drop-at, take-at, length-take-le}
+use Rattle.rules.specs.Words.{over}
 use Rattle.writing.specs.Put.{Room, Put, PutWithin}
 
 -- ---- two texts -------------------------------------------------------------------------------------------------------------------------
@@ -46,6 +47,10 @@ module _ {text : List ℕ} {at : ℕ} {out : List ℕ} (room : Room text at out)
       ap (λ (l : List ℕ). take (length text) (drop at l)) put-reads
       ∙ ap (λ (l : List ℕ). take (length text) l) (drop-at (take at out) (text ++ drop (at + length text) out) at n)
       ∙ take-at text (drop (at + length text) out) (length text) refl
+
+-- a text written at the front
+pub put-over : {text out out′ : List ℕ} {r : ℕ} → length text ≤ length out → Put text 0 out out′ r → out′ ≡ over text out
+put-over h p = rw zero-add at (put-reads (record { fits = omega arith }) p)
 
 -- any two outcomes are equal
 pub put-one : {text : List ℕ} {at r q : ℕ} {out a b : List ℕ} → Put text at out a r → Put text at out b q → (a ≡ b) × (r ≡ q)

@@ -1,9 +1,9 @@
--- `replay::book_buffer` meets its contract: by the law, and not by counting.
+-- `player::book_buffer` meets its contract: by the law, and not by counting.
 use mathlib.Core.Path.{sym}
 use Prim.Native.Nat.{ℕ}
 use lib.ListN.{length-replicate}
-use Rattle.replay.proofs.book_buffer.Statement.{statement}
-use Rattle.replay.proofs.book_buffer.Tie as tie
+use Rattle.player.proofs.book_buffer.Statement.{statement}
+use Rattle.player.proofs.book_buffer.Tie as tie
 
 returns : tie.Need-returns
 returns c = sym (length-replicate {0} {A = ℕ} 28680 0)

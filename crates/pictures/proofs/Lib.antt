@@ -1,0 +1,4 @@
+pub mod Round
+pub mod Places
+pub mod Pictures
+pub mod Examples
