@@ -39,14 +39,14 @@ fn value_ok(v: i8) -> bool
 fn value_fault(mines: &[i8]) -> usize
     ensures { λ r. ⌜ r ≡ firstNot (valueOkAt (now (mines .entry))) (length (now (mines .entry))) ⌝ }
 {
-    let mut i = 0;
-    while i < mines.len() {
-        if !value_ok(mines[i]) {
-            return i;
+    let mut cell = 0;
+    while cell < mines.len() {
+        if !value_ok(mines[cell]) {
+            return cell;
         }
-        i += 1;
+        cell += 1;
     }
-    i
+    cell
 }
 
 // 22: every value is -1 to 8.

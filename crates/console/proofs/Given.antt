@@ -16,8 +16,8 @@ use Rattle.refusals.specs.Rows.{first}
 use Rattle.board.proofs.Outcomes.{setup-refused, flow-refused, step-gives-back, step-game-state-gives-back, bbbv-solved-gives-back, left-to-solve-gives-back}
 use Rattle.flats.specs.declared.FlatPosition.{FlatPosition}
 use Rattle.flats.specs.declared.FlatAnswer.{FlatAnswer}
-use Rattle.flats.specs.Flat.{means, settingsOf, settingsIn, positionIn, flatOf, gives, flatAnswer}
-use Rattle.console.specs.Promises.{Leaves, leaves, unclear, refusesFlat, flatOutcome, flatAsked, resetOr, flatSetUp, setupFlat, resetFlat, stepFlat, flowFlat, gameStateFlat, bbbvSolvedFlat, leftFlat}
+use Rattle.flats.specs.Flat.{means, unclear, settingsOf, settingsIn, positionIn, flatOf, gives, flatAnswer}
+use Rattle.console.specs.Promises.{Leaves, leaves, refusesFlat, flatOutcome, flatAsked, resetOr, flatSetUp, setupFlat, resetFlat, stepFlat, flowFlat, gameStateFlat, bbbvSolvedFlat, leftFlat}
 use Rattle.flats.proofs.Bytes.{flat-back}
 use Rattle.console.proofs.Places.{flatRows, flat-rows}
 

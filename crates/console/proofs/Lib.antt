@@ -1,4 +1,3 @@
-pub mod Faults
 pub mod Making
 pub mod Outcomes
 pub mod Places

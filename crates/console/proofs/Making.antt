@@ -1,119 +1,169 @@
--- What each call answers for a flat position: where the bytes mean something, the flat form of what board's call leaves; where one does not, the
--- refusal of the position that is read, and the flat position goes back.
-use mathlib.Core.Path.{_≡_, ap, sym, _∙_}
-use mathlib.Core.Bool.{Bool, true, false}
+-- What each call answers for a flat position: the flat form of what board's call leaves; where a byte means nothing, the refusal of the position that
+-- was read, and the flat position goes back.
+use mathlib.Core.Path.{_≡_, refl, ap, sym, _∙_}
+use mathlib.Core.Bool.{Bool, true, false, true≢false, _&&_}
 use mathlib.Core.List.{List, [], _∷_}
-use Prim.Native.Nat.{ℕ}
-use borrow.Author.Tests.{eq-eqb, ne-eqb}
+use Prim.Native.Nat.{ℕ, _%_}
+use borrow.Author.Tests.{eq-eqb}
+use lib.Dec.{eqb}
+use lib.ListN.{length}
 use lib.IntN.{ℤ}
-use Rattle.rules.specs.declared.Place.{Place}
 use Rattle.rules.specs.declared.Settings.{Settings}
 use Rattle.rules.specs.declared.Position.{Position}
 use Rattle.rules.specs.declared.Answer.{Answer}
 use Rattle.rules.specs.declared.Value.{Value}
 use Rattle.rules.specs.Words.{pick}
 use Rattle.rules.specs.Board.{faultOf}
-use Rattle.rules.specs.Clicks.{desk}
-use Rattle.rules.specs.Calls.{checks, outcome, setUp, setupOf, resetOf, stepOf, flowOf, gameStateOf, bbbvSolvedOf, leftToSolveOf, totalOf, positionCheck, positionCheckOf, lentRefusal, flowRefusal}
+use Rattle.rules.specs.Clicks.{Desk, desk}
+use Rattle.rules.specs.Calls.{Outcome, SetUp, Asked, outcome, setUp, refuses, checks, boardsFit, workFits, positionRefusal, positionCheck, positionCheckOf, lentRefusal, flowRefusal, setupOf, resetOf, stepOf, flowOf, gameStateOf, bbbvSolvedOf, leftToSolveOf, totalOf}
 use Rattle.rules.specs.Promises.{asks, totals}
+use Rattle.board.proofs.Outcomes.{step-refused, flow-refused, left-to-solve-refused, step-game-state-refused, bbbv-solved-refused}
 use Rattle.flats.specs.declared.FlatPosition.{FlatPosition}
 use Rattle.flats.specs.declared.FlatAnswer.{FlatAnswer}
 use Rattle.flats.specs.declared.FlatValue.{FlatValue}
-use Rattle.flats.specs.Flat.{means, settingsOf, positionIn, gives, flatAnswer, flatValue}
-use Rattle.console.specs.Promises.{leaves, unclear, refusesFlat, flatOutcome, flatAsked, flatSetUp, resetOr, flatTotalled, setupFlat, resetFlat, stepFlat, flowFlat, positionFlat, gameStateFlat, bbbvSolvedFlat, leftFlat}
+use Rattle.flats.specs.Flat.{means, unclear, settingsOf, positionIn, gives, flatAnswer, flatValue}
+use Rattle.reads.specs.Reading.{Reads, answerFor, resetFor}
+use Rattle.console.specs.Promises.{Leaves, leaves, refusesFlat, flatSetUp, resetOr, flatTotalled, setupFlat, resetFlat, stepFlat, flowFlat, positionFlat, gameStateFlat, bbbvSolvedFlat, leftFlat}
 
--- ---- the two cases ---------------------------------------------------------------------------------------------------------------------
+-- ---- a byte that means nothing ---------------------------------------------------------------------------------------------------------
 
--- t is what the code has found of `means f`
-module _ {A : Type 0} (f : FlatPosition) (t : Bool) (et : t ≡ means f) (x y : A) where
-  meant : t ≡ true → x ≡ pick (means f) x y
-  meant m = ap (λ (b : Bool). pick b x y) (sym m ∙ et)
+unclear-some : (n k : ℕ) → k ≡ unclear n → k ≡ 0 → ⊥
+unclear-some n k e z = true≢false (sym (eq-eqb _ _ (sym e ∙ z)) ∙ go (eqb n 0) refl)
+  where
+    go : (b : Bool) → eqb n 0 ≡ b → eqb (pick b 264 n) 0 ≡ false
+    go true d = refl
+    go false d = d
 
-  unmeant : t ≡ false → y ≡ pick (means f) x y
-  unmeant m = ap (λ (b : Bool). pick b x y) (sym m ∙ et)
+-- p is what board was called on
+module _ (B : List ℤ) (f : FlatPosition) (shown bits : List ℕ) (p : Position) (h : Reads f p) where
+  -- the desk that the bytes are read as, and the one that the call is made on
+  abbrev read : Desk
+  read = desk (positionIn f) shown bits
 
--- the refused answer, whose number m and place x the code has found from n
-pub refused-flat : (B : List ℤ) (f : FlatPosition) (n m : ℕ) (x : Place) (r : FlatAnswer) → m ≡ unclear n → x ≡ faultOf (f .rows) (f .columns) B m → r ≡ gives m x f 0
-    → r ≡ refusesFlat B f (unclear n)
-refused-flat B f n m x r em ex er = er ∙ ap (λ (y : Place). gives m y f 0) ex ∙ ap (refusesFlat B f) em
+  abbrev made : Desk
+  made = desk p shown bits
 
--- ---- the calls on a position -----------------------------------------------------------------------------------------------------------
+  module _ (m : means f ≡ false) where
+    -- the lengths are tested by the settings, which are those of f
+    refused-as : (fits : Settings → Bool)
+        → positionRefusal (fits (p .settings)) B made ≡ unclear (positionRefusal (fits (positionIn f .settings)) B read)
+    refused-as fits =
+        let s = h .spoilt m in
+        ap (λ (t : Settings). positionRefusal (fits t) B made) (s .settings) ∙ s .refused (fits (positionIn f .settings)) B shown bits
 
-module _ (B : List ℤ) (f : FlatPosition) (shown bits : List ℕ) (p : Position) (ep : p ≡ positionIn f) (t : Bool) (et : t ≡ means f) where
-  module _ (a : Answer) (r : FlatAnswer) (er : r ≡ flatAnswer a) (m : t ≡ true) where
-    pub step-flat : (code x y : ℕ) (work shown′ bits′ work′ : List ℕ) → outcome a shown′ bits′ work′ ≡ stepOf B code x y (desk p shown bits) work
+    check-as : positionCheck B made ≡ unclear (positionCheck B read)
+    unfolding positionCheck
+    check-as = refused-as (λ s. boardsFit s B shown bits)
+
+    lent-as : (work : List ℕ) → lentRefusal B made work ≡ unclear (lentRefusal B read work)
+    unfolding lentRefusal
+    lent-as work = refused-as (λ s. boardsFit s B shown bits && workFits s work)
+
+    flow-as : (events work : List ℕ) → flowRefusal B events made work ≡ unclear (flowRefusal B events read work)
+    unfolding flowRefusal
+    flow-as events work = refused-as (λ s. boardsFit s B shown bits && (workFits s work && eqb (length events % 3) 0))
+
+    check-some : positionCheck B made ≡ 0 → ⊥
+    check-some = unclear-some (positionCheck B read) _ check-as
+
+    lent-some : (work : List ℕ) → lentRefusal B made work ≡ 0 → ⊥
+    lent-some work = unclear-some (lentRefusal B read work) _ (lent-as work)
+
+    flow-some : (events work : List ℕ) → flowRefusal B events made work ≡ 0 → ⊥
+    flow-some events work = unclear-some (flowRefusal B events read work) _ (flow-as events work)
+
+    -- a refusal of p, as it goes back
+    refused-back : (n k : ℕ) → k ≡ unclear n → (a : Answer) → a ≡ refuses B p k → gives (a .number) (a .place) f 0 ≡ refusesFlat B f (unclear n)
+    refused-back n k e a ea =
+        ap (λ (x : Answer). gives (x .number) (x .place) f 0) ea
+        ∙ ap (λ (s : Settings). gives k (faultOf (s .rows) (s .columns) B k) f 0) (h .spoilt m .settings)
+        ∙ ap (refusesFlat B f) e
+
+  -- ---- the calls on a position ---------------------------------------------------------------------------------------------------------
+
+  module _ (a : Answer) (r : FlatAnswer) (er : r ≡ answerFor f a) where
+    -- x is the definition's answer, n the refusal of what the bytes are read as, k that of p
+    answered : (x : Answer) (n k : ℕ) → (means f ≡ true → a ≡ x) → (means f ≡ false → k ≡ unclear n) → (means f ≡ false → a ≡ refuses B p k)
+        → r ≡ pick (means f) (flatAnswer x) (refusesFlat B f (unclear n))
+    answered x n k clear number refused = er ∙ go (means f) refl
+      where
+        go : (b : Bool) → means f ≡ b → pick b (flatAnswer a) (gives (a .number) (a .place) f 0) ≡ pick b (flatAnswer x) (refusesFlat B f (unclear n))
+        go true m = ap flatAnswer (clear m)
+        go false m = refused-back m n k (number m) a (refused m)
+
+    -- the same with what is lent: ls before, ls′ after, and ms what the definition leaves
+    left : (x : Answer) (n k : ℕ) (ls ls′ ms : List (List ℕ)) → (means f ≡ true → leaves a ls′ ≡ leaves x ms) → (means f ≡ false → k ≡ unclear n)
+        → (means f ≡ false → leaves a ls′ ≡ leaves (refuses B p k) ls)
+        → leaves r ls′ ≡ pick (means f) (leaves (flatAnswer x) ms) (leaves (refusesFlat B f (unclear n)) ls)
+    left x n k ls ls′ ms clear number refused = ap (λ (q : FlatAnswer). leaves q ls′) er ∙ go (means f) refl
+      where
+        go : (b : Bool) → means f ≡ b
+            → leaves (pick b (flatAnswer a) (gives (a .number) (a .place) f 0)) ls′ ≡ pick b (leaves (flatAnswer x) ms) (leaves (refusesFlat B f (unclear n)) ls)
+        go true m = ap (λ (o : Leaves Answer). leaves (flatAnswer (o .answer)) (o .lent)) (clear m)
+        go false m =
+            ap (λ (q : FlatAnswer). leaves q ls′) (refused-back m n k (number m) a (ap (λ (o : Leaves Answer). o .answer) (refused m)))
+            ∙ ap (λ (o : Leaves Answer). leaves (refusesFlat B f (unclear n)) (o .lent)) (refused m)
+
+    abbrev all : Outcome → Leaves Answer
+    all o = leaves (o .answer) (o .shown ∷ o .bits ∷ o .work ∷ [])
+
+    pub step-flat : (code x y : ℕ) (work shown′ bits′ work′ : List ℕ) → outcome a shown′ bits′ work′ ≡ stepOf B code x y made work
         → leaves r (shown′ ∷ bits′ ∷ work′ ∷ []) ≡ stepFlat B code x y f shown bits work
     unfolding stepFlat
-    step-flat code x y work shown′ bits′ work′ h =
-        ap (λ (q : FlatAnswer). leaves q (shown′ ∷ bits′ ∷ work′ ∷ [])) er
-        ∙ ap flatOutcome (h ∙ ap (λ (q : Position). stepOf B code x y (desk q shown bits) work) ep) ∙ meant f t et _ _ m
+    step-flat code x y work shown′ bits′ work′ e =
+        left (stepOf B code x y read work .answer) (lentRefusal B read work) (lentRefusal B made work) _ _ _
+        (λ m. ap all (e ∙ ap (λ (q : Position). stepOf B code x y (desk q shown bits) work) (h .clear m)))
+        (λ m. lent-as m work)
+        (λ m. ap all (e ∙ step-refused B made work code x y (lent-some m work)))
 
-    pub flow-flat : (events work shown′ bits′ work′ : List ℕ) → outcome a shown′ bits′ work′ ≡ flowOf B events (desk p shown bits) work
+    pub flow-flat : (events work shown′ bits′ work′ : List ℕ) → outcome a shown′ bits′ work′ ≡ flowOf B events made work
         → leaves r (shown′ ∷ bits′ ∷ work′ ∷ []) ≡ flowFlat B events f shown bits work
     unfolding flowFlat
-    flow-flat events work shown′ bits′ work′ h =
-        ap (λ (q : FlatAnswer). leaves q (shown′ ∷ bits′ ∷ work′ ∷ [])) er
-        ∙ ap flatOutcome (h ∙ ap (λ (q : Position). flowOf B events (desk q shown bits) work) ep) ∙ meant f t et _ _ m
+    flow-flat events work shown′ bits′ work′ e =
+        left (flowOf B events read work .answer) (flowRefusal B events read work) (flowRefusal B events made work) _ _ _
+        (λ m. ap all (e ∙ ap (λ (q : Position). flowOf B events (desk q shown bits) work) (h .clear m)))
+        (λ m. flow-as m events work)
+        (λ m. ap all (e ∙ flow-refused B made work events (flow-some m events work)))
 
-    pub left-flat : (work work′ : List ℕ) → asks a work′ ≡ leftToSolveOf B (desk p shown bits) work → leaves r (work′ ∷ []) ≡ leftFlat B f shown bits work
+    abbrev asked : Asked → Leaves Answer
+    asked o = leaves (o .answer) (o .work ∷ [])
+
+    pub left-flat : (work work′ : List ℕ) → asks a work′ ≡ leftToSolveOf B made work → leaves r (work′ ∷ []) ≡ leftFlat B f shown bits work
     unfolding leftFlat
-    left-flat work work′ h =
-        ap (λ (q : FlatAnswer). leaves q (work′ ∷ [])) er
-        ∙ ap flatAsked (h ∙ ap (λ (q : Position). leftToSolveOf B (desk q shown bits) work) ep) ∙ meant f t et _ _ m
+    left-flat work work′ e =
+        left (leftToSolveOf B read work .answer) (lentRefusal B read work) (lentRefusal B made work) _ _ _
+        (λ m. ap asked (e ∙ ap (λ (q : Position). leftToSolveOf B (desk q shown bits) work) (h .clear m)))
+        (λ m. lent-as m work)
+        (λ m. ap asked (e ∙ left-to-solve-refused B made work (lent-some m work)))
 
-    pub state-flat : (event : ℕ) → a ≡ gameStateOf B event (desk p shown bits) → r ≡ gameStateFlat B event f shown bits
+    pub state-flat : (event : ℕ) → a ≡ gameStateOf B event made → r ≡ gameStateFlat B event f shown bits
     unfolding gameStateFlat
-    state-flat event h = er ∙ ap flatAnswer (h ∙ ap (λ (q : Position). gameStateOf B event (desk q shown bits)) ep) ∙ meant f t et _ _ m
+    state-flat event e =
+        answered _ (positionCheck B read) (positionCheck B made)
+        (λ m. e ∙ ap (λ (q : Position). gameStateOf B event (desk q shown bits)) (h .clear m))
+        (λ m. check-as m)
+        (λ m. e ∙ step-game-state-refused B made (check-some m) event)
 
-    pub solved-flat : a ≡ bbbvSolvedOf B (desk p shown bits) → r ≡ bbbvSolvedFlat B f shown bits
+    pub solved-flat : a ≡ bbbvSolvedOf B made → r ≡ bbbvSolvedFlat B f shown bits
     unfolding bbbvSolvedFlat
-    solved-flat h = er ∙ ap flatAnswer (h ∙ ap (λ (q : Position). bbbvSolvedOf B (desk q shown bits)) ep) ∙ meant f t et _ _ m
-
-  -- refused, with the number n of the position that is read
-  module _ (n : ℕ) (r : FlatAnswer) (er : r ≡ refusesFlat B f (unclear n)) (m : t ≡ false) where
-    read-as : (k : ℕ) → n ≡ k → r ≡ refusesFlat B f (unclear k)
-    read-as k e = er ∙ ap (λ (i : ℕ). refusesFlat B f (unclear i)) e
-
-    pub step-unclear : (code x y : ℕ) (work : List ℕ) → n ≡ lentRefusal B (desk p shown bits) work
-        → leaves r (shown ∷ bits ∷ work ∷ []) ≡ stepFlat B code x y f shown bits work
-    unfolding stepFlat
-    step-unclear code x y work h =
-        ap (λ (q : FlatAnswer). leaves q (shown ∷ bits ∷ work ∷ [])) (read-as _ (h ∙ ap (λ (q : Position). lentRefusal B (desk q shown bits) work) ep)) ∙ unmeant f t et _ _ m
-
-    pub flow-unclear : (events work : List ℕ) → n ≡ flowRefusal B events (desk p shown bits) work
-        → leaves r (shown ∷ bits ∷ work ∷ []) ≡ flowFlat B events f shown bits work
-    unfolding flowFlat
-    flow-unclear events work h =
-        ap (λ (q : FlatAnswer). leaves q (shown ∷ bits ∷ work ∷ [])) (read-as _ (h ∙ ap (λ (q : Position). flowRefusal B events (desk q shown bits) work) ep)) ∙ unmeant f t et _ _ m
-
-    pub left-unclear : (work : List ℕ) → n ≡ lentRefusal B (desk p shown bits) work → leaves r (work ∷ []) ≡ leftFlat B f shown bits work
-    unfolding leftFlat
-    left-unclear work h =
-        ap (λ (q : FlatAnswer). leaves q (work ∷ [])) (read-as _ (h ∙ ap (λ (q : Position). lentRefusal B (desk q shown bits) work) ep)) ∙ unmeant f t et _ _ m
-
-    pub state-unclear : (event : ℕ) → n ≡ positionCheck B (desk p shown bits) → r ≡ gameStateFlat B event f shown bits
-    unfolding gameStateFlat
-    state-unclear event h = read-as _ (h ∙ ap (λ (q : Position). positionCheck B (desk q shown bits)) ep) ∙ unmeant f t et _ _ m
-
-    pub solved-unclear : n ≡ positionCheck B (desk p shown bits) → r ≡ bbbvSolvedFlat B f shown bits
-    unfolding bbbvSolvedFlat
-    solved-unclear h = read-as _ (h ∙ ap (λ (q : Position). positionCheck B (desk q shown bits)) ep) ∙ unmeant f t et _ _ m
+    solved-flat e =
+        answered _ (positionCheck B read) (positionCheck B made)
+        (λ m. e ∙ ap (λ (q : Position). bbbvSolvedOf B (desk q shown bits)) (h .clear m))
+        (λ m. check-as m)
+        (λ m. e ∙ bbbv-solved-refused B made (check-some m))
 
   -- the position check: its number, and with it the place
-  module _ (v : Value) (r : FlatValue) (er : r ≡ flatValue v) where
-    abbrev checked : ℕ → FlatValue
-    checked k = flatValue (checks (f .rows) (f .columns) B k)
-
-    pub position-flat : t ≡ true → v ≡ positionCheckOf B (desk p shown bits) → r ≡ checked (positionFlat B f shown bits)
-    unfolding positionFlat
-    position-flat m h =
-        er ∙ ap flatValue (h ∙ ap (λ (q : Position). positionCheckOf B (desk q shown bits)) ep) ∙ ap checked (meant f t et _ _ m)
-
-    pub position-unclear : (n k : ℕ) → t ≡ false → n ≡ positionCheck B (desk p shown bits) → k ≡ unclear n → v ≡ checks (f .rows) (f .columns) B k
-        → r ≡ checked (positionFlat B f shown bits)
-    unfolding positionFlat
-    position-unclear n k m h ek ev =
-        er ∙ ap flatValue ev ∙ ap checked (ek ∙ ap unclear (h ∙ ap (λ (q : Position). positionCheck B (desk q shown bits)) ep) ∙ unmeant f t et _ _ m)
+  pub position-flat : (v : Value) (r : FlatValue) → r ≡ flatValue v → v ≡ positionCheckOf B made
+      → r ≡ flatValue (checks (f .rows) (f .columns) B (positionFlat B f shown bits))
+  unfolding positionFlat
+  position-flat v r er ev = er ∙ ap flatValue ev ∙ go (means f) refl
+    where
+      go : (b : Bool) → means f ≡ b
+          → flatValue (positionCheckOf B made) ≡ flatValue (checks (f .rows) (f .columns) B (pick b (positionCheck B read) (unclear (positionCheck B read))))
+      go true m = ap (λ (q : Position). flatValue (positionCheckOf B (desk q shown bits))) (h .clear m)
+      go false m =
+          ap (λ (s : Settings). flatValue (checks (s .rows) (s .columns) B (positionCheck B made))) (h .spoilt m .settings)
+          ∙ ap (λ (k : ℕ). flatValue (checks (f .rows) (f .columns) B k)) (check-as m)
 
 -- ---- the calls without one, and reset --------------------------------------------------------------------------------------------------
 
@@ -124,17 +174,23 @@ unfolding setupFlat
 setup-flat rows columns mode question s B shown bits a r shown′ bits′ es h er =
     ap (λ (t : FlatAnswer). leaves t (shown′ ∷ bits′ ∷ [])) er ∙ ap flatSetUp (h ∙ ap (λ (g : Settings). setupOf g B shown bits) es)
 
-module _ (B : List ℤ) (f : FlatPosition) (shown bits : List ℕ) (p : Position) (ep : p ≡ positionIn f) (a : Answer) (shown′ bits′ : List ℕ)
-    (h : setUp a shown′ bits′ ≡ resetOf B (desk p shown bits)) where
-  reset-as : resetOr f (setUp a shown′ bits′) ≡ resetFlat B f shown bits
-  unfolding resetFlat
-  reset-as = ap (resetOr f) (h ∙ ap (λ (q : Position). resetOf B (desk q shown bits)) ep)
+-- reset's two cases are those of its answer
+reset-leaves : (f : FlatPosition) (o : SetUp) → leaves (resetFor f (o .answer)) (o .shown ∷ o .bits ∷ []) ≡ resetOr f o
+reset-leaves f o = go (eqb (o .answer .number) 0)
+  where
+    go : (b : Bool)
+        → leaves (pick b (flatAnswer (o .answer)) (gives (o .answer .number) (o .answer .place) f 0)) (o .shown ∷ o .bits ∷ [])
+        ≡ pick b (flatSetUp o) (leaves (gives (o .answer .number) (o .answer .place) f 0) (o .shown ∷ o .bits ∷ []))
+    go true = refl
+    go false = refl
 
-  pub reset-flat : (r : FlatAnswer) → r ≡ flatAnswer a → a .number ≡ 0 → leaves r (shown′ ∷ bits′ ∷ []) ≡ resetFlat B f shown bits
-  reset-flat r er z = ap (λ (t : FlatAnswer). leaves t (shown′ ∷ bits′ ∷ [])) er ∙ sym (simp (eq-eqb _ _ z)) ∙ reset-as
-
-  pub reset-back : (r : FlatAnswer) → r ≡ gives (a .number) (a .place) f 0 → (a .number ≡ 0 → ⊥) → leaves r (shown′ ∷ bits′ ∷ []) ≡ resetFlat B f shown bits
-  reset-back r er z = ap (λ (t : FlatAnswer). leaves t (shown′ ∷ bits′ ∷ [])) er ∙ sym (simp (ne-eqb _ _ z)) ∙ reset-as
+pub reset-flat : (B : List ℤ) (f : FlatPosition) (shown bits : List ℕ) (p : Position) (a : Answer) (shown′ bits′ : List ℕ) (r : FlatAnswer) → p ≡ positionIn f
+    → setUp a shown′ bits′ ≡ resetOf B (desk p shown bits) → r ≡ resetFor f a → leaves r (shown′ ∷ bits′ ∷ []) ≡ resetFlat B f shown bits
+unfolding resetFlat
+reset-flat B f shown bits p a shown′ bits′ r ep h er =
+    ap (λ (t : FlatAnswer). leaves t (shown′ ∷ bits′ ∷ [])) er
+    ∙ reset-leaves f (setUp a shown′ bits′)
+    ∙ ap (resetOr f) (h ∙ ap (λ (q : Position). resetOf B (desk q shown bits)) ep)
 
 pub total-flat : (rows columns : ℕ) (B : List ℤ) (work : List ℕ) (v : Value) (r : FlatValue) (work′ : List ℕ) → r ≡ flatValue v → totals v work′ ≡ totalOf rows columns B work
     → leaves r (work′ ∷ []) ≡ flatTotalled (totalOf rows columns B work)

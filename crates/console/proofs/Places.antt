@@ -12,8 +12,8 @@ use Rattle.rules.specs.Calls.{boardsFit, positionRefusal, positionCheck}
 use Rattle.refusals.specs.Rows.{Row, row, first, settingsRows}
 use Rattle.refusals.proofs.Places.{position-rows}
 use Rattle.flats.specs.declared.FlatPosition.{FlatPosition}
-use Rattle.flats.specs.Flat.{means, settingsIn, positionIn}
-use Rattle.console.specs.Promises.{unclear, positionFlat}
+use Rattle.flats.specs.Flat.{means, unclear, settingsIn, positionIn}
+use Rattle.console.specs.Promises.{positionFlat}
 
 -- no row has the number 0
 abbrev Refusing : List Row → Type 0

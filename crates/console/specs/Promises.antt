@@ -16,7 +16,7 @@ use Rattle.flats.specs.declared.FlatPosition.{FlatPosition}
 use Rattle.flats.specs.declared.FlatAnswer.{FlatAnswer}
 use Rattle.flats.specs.declared.FlatValue.{FlatValue}
 use Rattle.flats.specs.declared.FlatBook.{FlatBook}
-use Rattle.flats.specs.Flat.{means, settingsOf, positionIn, gives, flatAnswer, flatValue, flatBook}
+use Rattle.flats.specs.Flat.{means, unclear, settingsOf, positionIn, gives, flatAnswer, flatValue, flatBook}
 
 -- an outcome: what is answered, and what the lent lists are then, in the order of the call
 pub record Leaves (A : Type 0) : Type 0 where
@@ -27,10 +27,6 @@ abbrev pub leaves : {A : Type 0} → A → List (List ℕ) → Leaves A
 leaves a ls = record { answer = a; lent = ls }
 
 -- ---- a state byte that means nothing ---------------------------------------------------------------------------------------------------
-
--- the refusal n of what the bytes are read as, or 264 where that is 0
-abbrev pub unclear : ℕ → ℕ
-unclear n = pick (eqb n 0) 264 n
 
 -- a refusal gives the flat position back as it was given, and beside 22 and 23 the faulty cell of the board
 abbrev pub refusesFlat : List ℤ → FlatPosition → ℕ → FlatAnswer

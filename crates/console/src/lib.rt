@@ -2,34 +2,11 @@
 // are bytes. Every byte pattern is taken; a state byte that means nothing is refused with 264, after 20 to 263 (specs/Promises.antt).
 ghost use mathlib.Core.Path.{_≡_};
 ghost use Rattle.rules.specs.Promises.{NumberMinesIs};
-ghost use Rattle.boards.specs.Faults.{Placeable};
-ghost use Rattle.console.specs.Promises.{unclear, refusesFlat, CheckBoardIs, SetupIs, ResetIs, StepIs, StepFlowIs, CheckPositionIs, StepGameStateIs, BbbvSolvedIs, LeftToSolveIs, Total3bvIs, ReadBookIs};
+ghost use Rattle.console.specs.Promises.{CheckBoardIs, SetupIs, ResetIs, StepIs, StepFlowIs, CheckPositionIs, StepGameStateIs, BbbvSolvedIs, LeftToSolveIs, Total3bvIs, ReadBookIs};
 use flats::FlatAnswer;
 use flats::FlatBook;
 use flats::FlatPosition;
 use flats::FlatValue;
-
-// ---- a state byte that means nothing ---------------------------------------------------------------------------------------------------
-
-// The refusal n of what the bytes are read as, or 264 where that has none.
-fn unclear(n: u16) -> u16
-    ensures { λ r. ⌜ r ≡ unclear n ⌝ }
-{
-    if n != 0 {
-        return n;
-    }
-    264
-}
-
-// The flat position goes back as it was given, and beside 22 and 23 the faulty cell.
-fn refuse_unclear(n: u16, f: FlatPosition, mines: &[i8]) -> FlatAnswer
-    requires { ⌜ Placeable (f .rows) (f .columns) (now mines) n ⌝ }
-    ensures { λ r. ⌜ r ≡ refusesFlat (now (mines .entry)) f (unclear n) ⌝ }
-{
-    let m = unclear(n);
-    let x = boards::fault_of(f.rows, f.columns, mines, m);
-    flats::gives(m, x, f, 0)
-}
 
 // ---- the board -------------------------------------------------------------------------------------------------------------------------
 
@@ -91,12 +68,7 @@ pub extern "C" fn lm_reset(
 {
     let p = flats::position_in(f);
     let a = board::reset(p, mines, shown, bits);
-    let n = a.number;
-    if n == 0 {
-        return flats::flat_answer(a);
-    }
-    let x = a.place;
-    flats::gives(n, x, f, 0)
+    reads::reset_for(f, a)
 }
 
 // ---- the position ----------------------------------------------------------------------------------------------------------------------
@@ -111,12 +83,7 @@ pub extern "C" fn lm_check_position(
 ) -> FlatValue
     ensures { λ r. ⌜ CheckPositionIs f (now (mines .entry)) (now (shown .entry)) (now (bits .entry)) r ⌝ }
 {
-    let p = flats::position_in(f);
-    if !flats::means(f) {
-        let n = unclear(refusals::check_refusal(p, mines, shown, bits));
-        let v = refusals::found(f.rows, f.columns, mines, n);
-        return flats::flat_value(v);
-    }
+    let p = reads::position_for(f);
     let v = board::check_position(p, mines, shown, bits);
     flats::flat_value(v)
 }
@@ -132,13 +99,9 @@ pub extern "C" fn lm_step_game_state(
 ) -> FlatAnswer
     ensures { λ r. ⌜ StepGameStateIs f (now (mines .entry)) (now (shown .entry)) (now (bits .entry)) event r ⌝ }
 {
-    let p = flats::position_in(f);
-    if !flats::means(f) {
-        let n = refusals::check_refusal(p, mines, shown, bits);
-        return refuse_unclear(n, f, mines);
-    }
+    let p = reads::position_for(f);
     let a = board::step_game_state(p, mines, shown, bits, event);
-    flats::flat_answer(a)
+    reads::answer_for(f, a)
 }
 
 // Both solved counts together: 20 to 264.
@@ -151,13 +114,9 @@ pub extern "C" fn lm_get_bbbv_solved(
 ) -> FlatAnswer
     ensures { λ r. ⌜ BbbvSolvedIs f (now (mines .entry)) (now (shown .entry)) (now (bits .entry)) r ⌝ }
 {
-    let p = flats::position_in(f);
-    if !flats::means(f) {
-        let n = refusals::check_refusal(p, mines, shown, bits);
-        return refuse_unclear(n, f, mines);
-    }
+    let p = reads::position_for(f);
     let a = board::get_bbbv_solved(p, mines, shown, bits);
-    flats::flat_answer(a)
+    reads::answer_for(f, a)
 }
 
 // The total minus both solved counts: 20 to 264.
@@ -171,13 +130,9 @@ pub extern "C" fn lm_left_to_solve(
 ) -> FlatAnswer
     ensures { λ r. ⌜ LeftToSolveIs f (now (mines .entry)) (now (shown .entry)) (now (bits .entry)) (now (work .entry)) r (now (work .exit)) ⌝ }
 {
-    let p = flats::position_in(f);
-    if !flats::means(f) {
-        let n = refusals::lent_refusal(p, mines, shown, bits, &*work);
-        return refuse_unclear(n, f, mines);
-    }
+    let p = reads::position_for(f);
     let a = board::left_to_solve(p, mines, shown, bits, work);
-    flats::flat_answer(a)
+    reads::answer_for(f, a)
 }
 
 // ---- a step, and a row of events -------------------------------------------------------------------------------------------------------
@@ -196,13 +151,9 @@ pub extern "C" fn lm_step(
 ) -> FlatAnswer
     ensures { λ r. ⌜ StepIs f code row column (now (mines .entry)) (now (shown .entry)) (now (bits .entry)) (now (work .entry)) r (now (shown .exit)) (now (bits .exit)) (now (work .exit)) ⌝ }
 {
-    let p = flats::position_in(f);
-    if !flats::means(f) {
-        let n = refusals::lent_refusal(p, mines, &*shown, &*bits, &*work);
-        return refuse_unclear(n, f, mines);
-    }
+    let p = reads::position_for(f);
     let a = board::step(p, code, row, column, mines, shown, bits, work);
-    flats::flat_answer(a)
+    reads::answer_for(f, a)
 }
 
 // A row of events as a book has them: 20 to 264 once, then up to the first refused event.
@@ -217,13 +168,9 @@ pub extern "C" fn lm_step_flow(
 ) -> FlatAnswer
     ensures { λ r. ⌜ StepFlowIs f (now (events .entry)) (now (mines .entry)) (now (shown .entry)) (now (bits .entry)) (now (work .entry)) r (now (shown .exit)) (now (bits .exit)) (now (work .exit)) ⌝ }
 {
-    let p = flats::position_in(f);
-    if !flats::means(f) {
-        let n = refusals::flow_refusal(p, events, mines, &*shown, &*bits, &*work);
-        return refuse_unclear(n, f, mines);
-    }
+    let p = reads::position_for(f);
     let a = board::step_flow(p, events, mines, shown, bits, work);
-    flats::flat_answer(a)
+    reads::answer_for(f, a)
 }
 
 // ---- the book --------------------------------------------------------------------------------------------------------------------------

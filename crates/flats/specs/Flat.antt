@@ -8,7 +8,7 @@ use Rattle.rules.specs.declared.Position.{Position}
 use Rattle.rules.specs.declared.Answer.{Answer}
 use Rattle.rules.specs.declared.Value.{Value}
 use Rattle.rules.specs.declared.Book.{Book}
-use Rattle.rules.specs.Words.{bit}
+use Rattle.rules.specs.Words.{pick, bit}
 use Rattle.rules.specs.States.{gameNumber, gameAt, mouseNumber, mouseAt}
 use Rattle.rules.specs.Board.{rowByte, columnByte}
 use Rattle.flats.specs.declared.FlatPosition.{FlatPosition}
@@ -23,6 +23,10 @@ isOn n = not (eqb n 0)
 -- every state byte means something: question and middle 0 or 1, the game 0 to 4, the mouse 0 to 6, the spare byte 0
 unfoldable pub means : FlatPosition → Bool
 means f = leb (f .question) 1 && (leb (f .game) 4 && (leb (f .mouse) 6 && (leb (f .middle) 1 && eqb (f .spare) 0)))
+
+-- for a position with a byte that means nothing: the refusal n of what the bytes are read as, or 264 where that is 0
+abbrev pub unclear : ℕ → ℕ
+unclear n = pick (eqb n 0) 264 n
 
 abbrev pub settingsOf : ℕ → ℕ → ℕ → ℕ → Settings
 settingsOf rows columns mode question = record { rows = rows; columns = columns; mode = mode; question = isOn question }

@@ -1,26 +1,29 @@
--- The positions that document 01 marks P, and six beside them, as one table and one theorem that the checker computes over the definitions.
+-- The positions that document 01 marks P, and six beside them, as one table and one theorem that the checker computes over the definitions; after it
+-- the same for positions that are refused.
 -- Open is lc, lr; flag rc, rr. Each row is a game from its fresh start: settings, mine list, events, all that stands at its end, and what each event opened.
 use mathlib.Core.Path.{_≡_, refl}
 use mathlib.Core.Bool.{Bool, true, false, _&&_}
 use mathlib.Core.List.{List, [], _∷_, _++_}
 use Prim.Native.Nat.{ℕ, zero, suc}
 use lib.Dec.{leb, eqb}
-use lib.ListN.{getD}
+use lib.ListN.{getD, replicate}
 use lib.IntN.{ℤ, pos, negsuc}
 use Rattle.rules.specs.declared.Settings.{Settings}
-use Rattle.rules.specs.Words.{pick, count, every, inOrder, stackOf, rounds}
-use Rattle.rules.specs.States.{gameNumber, mouseNumber, mouseAt}
-use Rattle.rules.specs.Grid.{sizeOk, ninth, cellBefore, neighbour, around, cellsIf, pushed}
-use Rattle.rules.specs.Board.{zeroAt, loneAt, mineOk, listedMine, numberedAt, numbered, numberingRefusal}
+use Rattle.rules.specs.declared.MouseState.{MouseState}
+use Rattle.rules.specs.declared.MouseState.the-variants.{UpUp, UpDownNotFlag}
+use Rattle.rules.specs.Words.{pick, count, every, firstNot, inOrder, stackOf, rounds}
+use Rattle.rules.specs.States.{gameNumber, mouseNumber, mouseAt, freshOf, withMouse, withFlag}
+use Rattle.rules.specs.Grid.{sizeOk, ninth, cellBefore, neighbour, around, pushed, cellsIf}
+use Rattle.rules.specs.Board.{zeroAt, loneAt, valuesOk, numberOk, numbersOk, someSafe, boardRefusal, rowByte, columnByte, faultOf, mineOk, listedMine, numberedAt, numbered, numberingRefusal}
 use Rattle.rules.specs.Lent.{bitAt, withBit}
 use Rattle.rules.specs.Opening.{shownAfter, stackAfter, hitAfter, run, crossed, refreshed}
-use Rattle.rules.specs.Judging.{freeAt, kind, walk, walkFrom, judgedLeft, judgeOne, tally, openingsJudged, lones, bvOf, total3bv, notOpenAt, leftToSolve}
-use Rattle.rules.specs.Clicks.{Desk, Play, done, rowsOf, columnsOf, cellsOf, flagAt, isWon, ended, solvesLeft, leftOpens, leftClick, bitsWith, addsRce, takeBack, chordIsUseful, chordOpens, performChord}
+use Rattle.rules.specs.Judging.{freeAt, kind, walk, walkFrom, judgedLeft, judgeOne, tally, openingsJudged, lones, total3bv, bvOf, notOpenAt, leftToSolve}
+use Rattle.rules.specs.Clicks.{Desk, Play, desk, done, rowsOf, columnsOf, cellsOf, flagAt, isWon, ended, solvesLeft, leftOpens, leftClick, bitsWith, addsRce, takeBack, chordIsUseful, chordOpens, performChord}
 use Rattle.rules.specs.Passes.{remainder, allClosed, ripeAt, listed, flagOne, flagAll, flagRound, flagPass, chordOne, chordScan, chordRound, chordPass, bothRound, bothPass, passesAfterFlag, passesAfterChord, rightClick, chordingClick}
 use Rattle.rules.specs.Mouse.{mouseTable, nextMouse, moved, bothDown, resolved, flipped}
 use Rattle.rules.specs.Step.{seenAt, leftAt, rightAt, chordAt, chordFrom, playLc, playLr, playRc, playRr, playing, preFlag, readyLc, readyRc, ready, preLeft, preLr, preCell, preRight, preRc, preFlaging, byGame, pointerOf, eventOf, errsPlaying, errsPreFlaging, badPreFlag, eventRefusal, plainOf, refusalAt, playAt, stepAt, stepBy, stepOn}
-use Rattle.rules.specs.Lawful.{countShown}
-use Rattle.rules.specs.Calls.{freshDesk, openedIn, plays, lastPlay}
+use Rattle.rules.specs.Lawful.{countShown, cellLawful, shownLawful, bitsLawful, countsLawful, gameLawful, statesLawful, lawfulRefusal}
+use Rattle.rules.specs.Calls.{boardsFit, modeOk, settingsRefusal, positionRefusal, positionCheck, positionCheckOf, freshDesk, plays, lastPlay, openedIn}
 use Rattle.rules.specs.Printout.{nineCounts, twoBv}
 
 pub record Row : Type 0 where
@@ -180,3 +183,63 @@ unfolding wrongRows same eqz remaindersIn played last openedFrom countShown ends
     playLc playLr playRc playRr playing preFlag readyLc readyRc ready preLeft preLr preCell preRight preRc preFlaging byGame pointerOf eventOf errsPlaying
     errsPreFlaging badPreFlag eventRefusal plainOf refusalAt playAt stepAt stepBy stepOn plays lastPlay
 positions = refl
+
+-- ---- refused positions -----------------------------------------------------------------------------------------------------------------
+
+-- a mine board, what lies before the player, and what the position check says of it: its number, and the two bytes of its place
+pub record Typed : Type 0 where
+  pub name : ℕ
+  pub board : List ℤ
+  pub desk : Desk
+  pub says : List ℕ
+
+unfoldable checked : Typed → List ℕ
+checked t =
+    let v = positionCheckOf (t .board) (t .desk) in
+    v .number ∷ rowByte (v .place) ∷ columnByte (v .place) ∷ []
+
+-- the names of the rows that do not hold
+pub wrongTyped : List Typed → List ℕ
+wrongTyped [] = []
+wrongTyped (t ∷ ts) =
+    let more = wrongTyped ts in
+    pick (same eqb (checked t) (t .says)) more (t .name ∷ more)
+
+-- 3×3, mine (2,2), every cell closed, Ready, but for the board, the shown cell (0,0), the first byte of bits, the flag count and the mouse state
+typed : ℕ → List ℤ → ℕ → ℕ → ℕ → MouseState → List ℕ → Typed
+typed n B x byte flag mouse says = record {
+  name = n;
+  board = B;
+  desk = desk (withFlag (withMouse (freshOf (size 3 3 0 false)) mouse) flag) (x ∷ replicate 8 10) (byte ∷ 0 ∷ []);
+  says = says;
+}
+
+numbers : ℤ → ℤ → ℤ → ℤ → ℤ → List ℤ
+numbers first middle right below last = first ∷ pos 0 ∷ pos 0 ∷ pos 0 ∷ middle ∷ right ∷ pos 0 ∷ below ∷ last ∷ []
+
+right-numbers : List ℤ
+right-numbers = numbers (pos 0) (pos 1) (pos 1) (pos 1) (negsuc 0)
+
+pub typedTable : List Typed
+typedTable =
+    -- 0 0 0 / 0 1 1 / 0 1 -1 as it is
+    typed 1 right-numbers 10 0 0 UpUp (0 ∷ 255 ∷ 255 ∷ [])
+    -- (1,1) is 2; (1,2) too
+    ∷ typed 2 (numbers (pos 0) (pos 2) (pos 1) (pos 1) (negsuc 0)) 10 0 0 UpUp (23 ∷ 1 ∷ 1 ∷ [])
+    ∷ typed 3 (numbers (pos 0) (pos 2) (pos 2) (pos 1) (negsuc 0)) 10 0 0 UpUp (23 ∷ 1 ∷ 1 ∷ [])
+    -- (0,0) is 1 and (1,2) is 9: every value is tested before a number is
+    ∷ typed 4 (numbers (pos 1) (pos 1) (pos 9) (pos 1) (negsuc 0)) 10 0 0 UpUp (22 ∷ 1 ∷ 2 ∷ [])
+    -- (2,1) is -2 and (2,2) is 9
+    ∷ typed 5 (numbers (pos 0) (pos 1) (pos 1) (negsuc 1) (pos 9)) 10 0 0 UpUp (22 ∷ 2 ∷ 1 ∷ [])
+    -- (0,0) shows 12, bit 0 is set, the flag count is 5 and the mouse UpDownNotFlag; then without the 12, without the bit, without the flag count
+    ∷ typed 6 right-numbers 12 1 5 UpDownNotFlag (261 ∷ 255 ∷ 255 ∷ [])
+    ∷ typed 7 right-numbers 10 1 5 UpDownNotFlag (262 ∷ 255 ∷ 255 ∷ [])
+    ∷ typed 8 right-numbers 10 0 5 UpDownNotFlag (263 ∷ 255 ∷ 255 ∷ [])
+    ∷ typed 9 right-numbers 10 0 0 UpDownNotFlag (264 ∷ 255 ∷ 255 ∷ [])
+    ∷ []
+
+pub typed-positions : wrongTyped typedTable ≡ []
+unfolding wrongTyped same checked typedTable typed numbers right-numbers size positionCheck positionRefusal settingsRefusal boardsFit modeOk boardRefusal sizeOk valuesOk
+    numbersOk numberOk someSafe faultOf firstNot every count around neighbour ninth cellBefore lawfulRefusal shownLawful cellLawful bitsLawful bitAt
+    countsLawful countShown statesLawful gameLawful
+typed-positions = refl

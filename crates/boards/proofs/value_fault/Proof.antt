@@ -1,4 +1,4 @@
--- `boards::value_fault` meets its contract: the values before `i` are right. Assumes nothing.
+-- `boards::value_fault` meets its contract: the values before `cell` are right. Assumes nothing.
 use mathlib.Core.Path.{sym, _≡_, refl}
 use mathlib.Core.Bool.{true}
 use Prim.Native.Nat.{_≤_, _-_}
@@ -16,10 +16,10 @@ use Rattle.boards.proofs.value_fault.Statement.{statement}
 use Rattle.boards.proofs.value_fault.Tie as tie
 
 abbrev Inv-loop : tie.InvT-loop
-Inv-loop mines i₀ i = (i ≤ length mines) × (every (valueOkAt mines) i ≡ true)
+Inv-loop mines cell₀ cell = (cell ≤ length mines) × (every (valueOkAt mines) cell ≡ true)
 
 abbrev μ-loop : tie.MeasureT-loop
-μ-loop mines i₀ i = length mines - i
+μ-loop mines cell₀ cell = length mines - cell
 
 loop-holds : tie.Need-loop-holds Inv-loop μ-loop
 unfolding every
@@ -35,12 +35,12 @@ returns : tie.Need-returns Inv-loop μ-loop
 returns c =
     let B = c .before .before .before .before .before .args .mines .now in
     sym
-    (first-at (valueOkAt B) (length B) (c .before .before .before .before .loop .i) (search needs) (c .before .before .before .before .loop .inv .1)
-    (value-passed (getD B (c .before .before .before .before .loop .i) (pos 0)) (record { sfits = c .before .before .value-ok-arg .given })
+    (first-at (valueOkAt B) (length B) (c .before .before .before .before .loop .cell) (search needs) (c .before .before .before .before .loop .inv .1)
+    (value-passed (getD B (c .before .before .before .before .loop .cell) (pos 0)) (record { sfits = c .before .before .value-ok-arg .given })
     (c .before .value-ok .ensures) (not-true _ (c .if1 .taken))))
 
-add-i : tie.Need-add-i Inv-loop μ-loop
-add-i c = search needs
+add-cell : tie.Need-add-cell Inv-loop μ-loop
+add-cell c = search needs
 
 loop-less : tie.Need-loop-less Inv-loop μ-loop
 loop-less c = search needs
@@ -49,16 +49,16 @@ loop-again : tie.Need-loop-again Inv-loop μ-loop
 loop-again c =
     let B = c .before .before .before .before .before .args .mines .now in (
       search needs,
-      every-turn (valueOkAt B) (c .before .before .before .before .loop .i)
+      every-turn (valueOkAt B) (c .before .before .before .before .loop .cell)
           (c .before .before .before .before .loop .inv .1)
-          (value-passed (getD B (c .before .before .before .before .loop .i) (pos 0)) (record { sfits = c .before .before .value-ok-arg .given })
+          (value-passed (getD B (c .before .before .before .before .loop .cell) (pos 0)) (record { sfits = c .before .before .value-ok-arg .given })
           (c .before .value-ok .ensures) (not-false _ (c .if1 .left))),
     )
 
 returns-2 : tie.Need-returns-2 Inv-loop μ-loop
 returns-2 c =
     let B = c .before .before .args .mines .now in
-    sym (first-past (valueOkAt B) (length B) (c .before .loop .i) (omega arith) (omega arith) (c .before .loop .inv .1))
+    sym (first-past (valueOkAt B) (length B) (c .before .loop .cell) (omega arith) (omega arith) (c .before .loop .inv .1))
 
 pub value-fault-spec : {M : Type 1} → statement M
 value-fault-spec =
@@ -70,7 +70,7 @@ value-fault-spec =
     shared-slice-copy-out-value-ok
     value-ok-requires
     returns
-    add-i
+    add-cell
     loop-less
     loop-again
     returns-2)

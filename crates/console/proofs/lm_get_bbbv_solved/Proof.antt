@@ -1,44 +1,21 @@
 -- `console::lm_get_bbbv_solved` meets its contract.
-use borrow.Author.Tests.{not-true, not-false}
-use Rattle.console.proofs.Faults.{check-placed}
-use Rattle.console.proofs.Making.{solved-flat, solved-unclear}
+use Rattle.console.proofs.Making.{solved-flat}
 use borrow.Author.Needs.{needs}
 use Rattle.console.proofs.lm_get_bbbv_solved.Statement.{statement}
 use Rattle.console.proofs.lm_get_bbbv_solved.Tie as tie
 
-position-in-requires : tie.Need-position-in-requires
-position-in-requires c κs = search needs
-
-means-requires : tie.Need-means-requires
-means-requires c κs = search needs
-
-check-refusal-requires : tie.Need-check-refusal-requires
-check-refusal-requires c κs = search needs
-
-refuse-unclear-requires : tie.Need-refuse-unclear-requires
-refuse-unclear-requires c κs = check-placed _ _ _ (c .before .before .means .ensures) _ _ _ (c .before .before .before .position-in .ensures) _ (c .check-refusal .ensures)
-
-returns : tie.Need-returns
-returns c = solved-unclear _ _ _ _ _ (c .before .before .before .before .position-in .ensures) _ (c .before .before .before .means .ensures) _ _ (c .refuse-unclear .ensures) (not-true _ (c .before .before .if1 .taken)) (c .before .check-refusal .ensures)
+position-for-requires : tie.Need-position-for-requires
+position-for-requires c κs = search needs
 
 get-bbbv-solved-requires : tie.Need-get-bbbv-solved-requires
 get-bbbv-solved-requires c κs = search needs
 
-flat-answer-requires : tie.Need-flat-answer-requires
-flat-answer-requires c κs = search needs
+answer-for-requires : tie.Need-answer-for-requires
+answer-for-requires c κs = search needs
 
-returns-2 : tie.Need-returns-2
-returns-2 c = solved-flat _ _ _ _ _ (c .before .before .before .before .position-in .ensures) _ (c .before .before .before .means .ensures) _ _ (c .flat-answer .ensures) (not-false _ (c .before .before .if1 .left)) (c .before .get-bbbv-solved .ensures)
+returns : tie.Need-returns
+returns c = solved-flat _ _ _ _ _ (c .before .before .position-for .ensures) _ _ (c .answer-for .ensures) (c .before .get-bbbv-solved .ensures)
 
 pub lm-get-bbbv-solved-spec : {M : Type 1} → statement M
 lm-get-bbbv-solved-spec =
-    tie.close
-    (tie.spec
-    position-in-requires
-    means-requires
-    check-refusal-requires
-    refuse-unclear-requires
-    returns
-    get-bbbv-solved-requires
-    flat-answer-requires
-    returns-2)
+    tie.close (tie.spec position-for-requires get-bbbv-solved-requires answer-for-requires returns)

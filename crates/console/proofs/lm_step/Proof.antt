@@ -1,22 +1,17 @@
 -- `console::lm_step` meets its contract.
-use borrow.Author.Tests.{not-true, not-false}
-use Rattle.console.proofs.Faults.{lent-placed}
-use Rattle.console.proofs.Making.{step-flat, step-unclear}
+use Rattle.console.proofs.Making.{step-flat}
 use borrow.Author.Needs.{needs}
 use Rattle.console.proofs.lm_step.Statement.{statement}
 use Rattle.console.proofs.lm_step.Tie as tie
 
-position-in-requires : tie.Need-position-in-requires
-position-in-requires c κs = search needs
+position-for-requires : tie.Need-position-for-requires
+position-for-requires c κs = search needs
 
-means-requires : tie.Need-means-requires
-means-requires c κs = search needs
+step-requires : tie.Need-step-requires
+step-requires c κs = search needs
 
-lent-refusal-requires : tie.Need-lent-refusal-requires
-lent-refusal-requires c κs = search needs
-
-refuse-unclear-requires : tie.Need-refuse-unclear-requires
-refuse-unclear-requires c κs = lent-placed _ _ _ (c .before .before .before .before .before .means .ensures) _ _ _ (c .before .before .before .before .before .before .position-in .ensures) _ _ (c .lent-refusal .ensures)
+answer-for-requires : tie.Need-answer-for-requires
+answer-for-requires c κs = search needs
 
 same-length : tie.Need-same-length
 same-length c = search needs
@@ -28,41 +23,16 @@ same-length-3 : tie.Need-same-length-3
 same-length-3 c = search needs
 
 returns : tie.Need-returns
-returns c = step-unclear _ _ _ _ _ (c .before .before .before .before .before .before .before .position-in .ensures) _ (c .before .before .before .before .before .before .means .ensures) _ _ (c .refuse-unclear .ensures) (not-true _ (c .before .before .before .before .before .if1 .taken)) _ _ _ _ (c .before .lent-refusal .ensures)
-
-step-requires : tie.Need-step-requires
-step-requires c κs = search needs
-
-flat-answer-requires : tie.Need-flat-answer-requires
-flat-answer-requires c κs = search needs
-
-same-length-4 : tie.Need-same-length-4
-same-length-4 c = search needs
-
-same-length-5 : tie.Need-same-length-5
-same-length-5 c = search needs
-
-same-length-6 : tie.Need-same-length-6
-same-length-6 c = search needs
-
-returns-2 : tie.Need-returns-2
-returns-2 c = step-flat _ _ _ _ _ (c .before .before .before .before .before .before .before .before .before .before .before .before .before .position-in .ensures) _ (c .before .before .before .before .before .before .before .before .before .before .before .before .means .ensures) _ _ (c .flat-answer .ensures) (not-false _ (c .before .before .before .before .before .before .before .before .before .before .before .if1 .left)) _ _ _ _ _ _ _ (c .before .before .before .before .before .before .before .step .ensures)
+returns c = step-flat _ _ _ _ _ (c .before .before .before .before .before .before .before .before .before .before .before .position-for .ensures) _ _ (c .answer-for .ensures) _ _ _ _ _ _ _ (c .before .before .before .before .before .before .before .step .ensures)
 
 pub lm-step-spec : {M : Type 1} → statement M
 lm-step-spec =
     tie.close
     (tie.spec
-    position-in-requires
-    means-requires
-    lent-refusal-requires
-    refuse-unclear-requires
+    position-for-requires
+    step-requires
+    answer-for-requires
     same-length
     same-length-2
     same-length-3
-    returns
-    step-requires
-    flat-answer-requires
-    same-length-4
-    same-length-5
-    same-length-6
-    returns-2)
+    returns)
