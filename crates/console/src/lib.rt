@@ -119,7 +119,7 @@ pub extern "C" fn lm_get_bbbv_solved(
     reads::answer_for(f, a)
 }
 
-// The total minus both solved counts: 20 to 264.
+// Openings with a 0 not open, plus numbers without a 0 neighbour not open: 20 to 264.
 #[no_mangle]
 pub extern "C" fn lm_left_to_solve(
     f: FlatPosition,
