@@ -1,5 +1,6 @@
 // Plays through the library from C: a book's game that is won, printed as document 01 prints it, a game that is lost, with the buzzer's ticks, a
-// board that was typed wrong, and what is refused. Every number that comes back is held to what it must be; the status is 1 if one is not.
+// button by the league's rules 1 and 2, a board that was typed wrong, and what is refused. Every number that comes back is held to what it must be;
+// the status is 1 if one is not.
 #include <stdio.h>
 #include <stdlib.h>
 #include <string.h>
@@ -44,11 +45,11 @@ static lm_answer step(lm_position p, uint8_t code, uint8_t row, uint8_t column)
     return lm_step(p, code, row, column, MINES(p), SHOWN(p), BITS(p), WORK(p));
 }
 
-static lm_position begin(uint8_t rows, uint8_t columns, const uint8_t *list, size_t length)
+static lm_position begin(uint8_t rows, uint8_t columns, uint8_t rules, const uint8_t *list, size_t length)
 {
     expect("numbering", lm_number_mines(rows, columns, list, length, mines, LM_CELLS(rows, columns)), LM_NOTHING);
     expect_number("the board", lm_check_board(rows, columns, mines, LM_CELLS(rows, columns)), LM_NOTHING);
-    lm_answer a = lm_setup(rows, columns, 0, 0, mines, LM_CELLS(rows, columns), shown, LM_CELLS(rows, columns), bits, LM_BITS(rows, columns));
+    lm_answer a = lm_setup(rows, columns, 0, 0, rules, mines, LM_CELLS(rows, columns), shown, LM_CELLS(rows, columns), bits, LM_BITS(rows, columns));
     expect("setup", a.number, LM_NOTHING);
     return a.position;
 }
@@ -85,7 +86,8 @@ static void won(void)
     expect("the book", b.number, LM_NOTHING);
     expect("its mines", b.mines, 1);
     expect("its events", b.events, 6);
-    lm_position p = begin(b.rows, b.columns, book + b.mines_at, 2 * b.mines);
+    expect("its rules", b.rules, 1);
+    lm_position p = begin(b.rows, b.columns, b.rules, book + b.mines_at, 2 * b.mines);
     lm_position fresh = p;
     printf("game %d %d %d %d\n", p.rows, p.columns, p.mode, p.question);
     for (size_t n = 0; n < b.events; n++) {
@@ -120,7 +122,7 @@ static void lost(void)
 {
     static const uint8_t mine[] = {2, 2};
     static const uint8_t wanted[] = {0, 0, 0, 0, 1, 1, LM_WRONG_FLAG, 1, LM_MINE_HIT};
-    lm_position p = begin(3, 3, mine, sizeof mine);
+    lm_position p = begin(3, 3, 1, mine, sizeof mine);
     p = step(p, LM_LC, 1, 1).position;
     lm_answer a = step(p, LM_LR, 1, 1);
     expect("an opening", a.number, LM_OPENED);
@@ -140,6 +142,25 @@ static void lost(void)
     expect_shown(p, wanted);
 }
 
+// A book that says its rules: 1 x 3, a mine at (0, 0); open (0, 1), a right press on it, and then `r`, by rules 2 a release.
+static void released(void)
+{
+    static const uint8_t book[] = {5, 1, 3, 0, 0, 2, 1, 0, 0, 0, 4, 0, LM_LC, 0, 1, LM_LR, 0, 1, LM_RC, 0, 1, LM_R, 0, 1};
+    lm_book b = lm_read_book(book, sizeof book);
+    expect("the book", b.number, LM_NOTHING);
+    expect("its rules", b.rules, 2);
+    expect("where its mines stand", b.mines_at, 8);
+    for (uint8_t rules = 1; rules <= 2; rules++) {
+        lm_position p = begin(b.rows, b.columns, rules, book + b.mines_at, 2 * b.mines);
+        lm_answer a = lm_step_flow(p, book + b.events_at, 3 * b.events, MINES(p), SHOWN(p), BITS(p), WORK(p));
+        expect("its events", a.number, LM_NOTHING);
+        expect("the mouse", a.position.mouse, rules == 2 ? LM_UP_UP : LM_UP_DOWN_NOT_FLAG);
+        expect("the rules", a.position.rules, rules);
+        a = lm_reset(a.position, MINES(p), SHOWN(p), BITS(p));
+        expect_position("the position after reset", a.position, p);
+    }
+}
+
 // A board that was typed by hand, with one wrong number: the check says which cell.
 static void typed(void)
 {
@@ -149,7 +170,7 @@ static void typed(void)
     printf("refused %d: the number in row %d, column %d\n", v.number, v.row, v.column);
     expect("its row", v.row, 1);
     expect("its column", v.column, 1);
-    lm_answer a = lm_setup(3, 3, 0, 0, board, sizeof board, shown, LM_CELLS(3, 3), bits, LM_BITS(3, 3));
+    lm_answer a = lm_setup(3, 3, 0, 0, 1, board, sizeof board, shown, LM_CELLS(3, 3), bits, LM_BITS(3, 3));
     expect("setup with it", a.number, LM_BAD_COUNT);
     expect("its row", a.row, 1);
     expect("its column", a.column, 1);
@@ -160,7 +181,7 @@ static void refused(void)
 {
     static const uint8_t mine[] = {2, 2};
     static const uint8_t closed[] = {10, 10, 10, 10, 10, 10, 10, 10, 10};
-    lm_position p = begin(3, 3, mine, sizeof mine);
+    lm_position p = begin(3, 3, 1, mine, sizeof mine);
     memset(work, 0xa5, sizeof work);
 
     lm_position odd = p;
@@ -206,6 +227,7 @@ int main(void)
 {
     won();
     lost();
+    released();
     typed();
     refused();
     return 0;

@@ -1,5 +1,5 @@
 // Plays through the library from Rust, by the safe wrapper: document 01's book, which is won, with a display on another thread; a game that is
-// lost; and what is refused. Every outcome is held to what it must be.
+// lost; a button by the league's rules 1 and 2; and what is refused. Every outcome is held to what it must be.
 #[allow(dead_code)] // the wrapper offers more than this game needs
 mod liftmanger;
 
@@ -15,7 +15,7 @@ fn display(view: View<'_>) {
 }
 
 fn by_hand(rows: u8, columns: u8) -> Settings {
-    Settings { rows, columns, mode: 0, question: false }
+    Settings { rows, columns, mode: 0, question: false, rules: 1 }
 }
 
 /// The buzzer: one tick for each cell that the event opened.
@@ -79,11 +79,27 @@ fn lost() -> Result<(), Refusal> {
     Ok(())
 }
 
+/// A right press on an open cell, and then `r`: by rules 2 a release.
+fn released() -> Result<(), Refusal> {
+    for (rules, state) in [(1, MouseState::UpDownNotFlag), (2, MouseState::UpUp)] {
+        let mut game = Game::<3, 1, 32>::new(Settings { rules, ..by_hand(1, 3) }, &[[0, 0]])?;
+        let middle = Pointer::Cell(0, 1);
+        for code in [Code::Lc, Code::Lr, Code::Rc, Code::R] {
+            game.step(code, middle)?;
+        }
+        assert_eq!((game.view().mouse, game.view().settings.rules), (state, rules));
+        game.reset();
+        assert_eq!(game.view().settings.rules, rules);
+    }
+    Ok(())
+}
+
 fn refused() -> Result<(), Refusal> {
     assert_eq!(Game::<9, 2, 80>::new(by_hand(65, 3), &[]).err(), Some(at_no_cell(20)));
     assert_eq!(Game::<9, 2, 80>::new(by_hand(3, 4), &[]).err(), Some(at_no_cell(21)));
     assert_eq!(Game::<9, 2, 80>::new(by_hand(3, 3), &[[1, 1], [1, 1]]).err(), Some(at_no_cell(42)));
-    assert_eq!(Game::<9, 2, 80>::new(Settings { mode: 6, ..by_hand(3, 3) }, &[]).err(), Some(at_no_cell(25)));
+    assert_eq!(Game::<9, 2, 80>::new(Settings { mode: 6, rules: 3, ..by_hand(3, 3) }, &[]).err(), Some(at_no_cell(25)));
+    assert_eq!(Game::<9, 2, 80>::new(Settings { rules: 3, ..by_hand(3, 3) }, &[]).err(), Some(at_no_cell(45)));
     let typed = [0, 0, 0, 0, 2, 1, 0, 1, -1];
     let wrong = Game::<9, 2, 80>::from_board(by_hand(3, 3), typed).err();
     assert_eq!(wrong, Some(Refusal { number: 23, place: Some([1, 1]) }));
@@ -99,5 +115,6 @@ fn refused() -> Result<(), Refusal> {
 fn main() -> Result<(), Refusal> {
     won()?;
     lost()?;
+    released()?;
     refused()
 }

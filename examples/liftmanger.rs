@@ -16,7 +16,7 @@ mod raw {
         pub game: u8,
         pub mouse: u8,
         pub middle: u8,
-        pub spare: u8,
+        pub rules: u8,
         pub preflags: u32,
         pub events: u32,
         pub left: u32,
@@ -60,6 +60,7 @@ mod raw {
             columns: u8,
             mode: u8,
             question: u8,
+            rules: u8,
             mines: *const i8,
             mines_n: usize,
             shown: *mut u8,
@@ -203,6 +204,8 @@ pub struct Settings {
     pub columns: u8,
     pub mode: u8,
     pub question: bool,
+    /// the league's rules, 1 or 2
+    pub rules: u8,
 }
 
 /// What a display may be handed during a game. While one lives, nothing steps.
@@ -280,7 +283,7 @@ impl<const CELLS: usize, const BITS: usize, const WORK: usize> Game<CELLS, BITS,
     /// A new game from a mine board with its numbers, -1 for a mine. A wrong value or number is refused with its place.
     pub fn from_board(settings: Settings, mines: [i8; CELLS]) -> Result<Self, Refusal> {
         const { assert!(BITS == CELLS.div_ceil(8) && WORK >= 8 * CELLS + 8) }
-        let Settings { rows, columns, mode, question } = settings;
+        let Settings { rows, columns, mode, question, rules } = settings;
         let (mut shown, mut bits) = ([0; CELLS], [0; BITS]);
         // SAFETY: as in `new`.
         let a = unsafe {
@@ -289,6 +292,7 @@ impl<const CELLS: usize, const BITS: usize, const WORK: usize> Game<CELLS, BITS,
                 columns,
                 mode,
                 question.into(),
+                rules,
                 mines.as_ptr(),
                 mines.len(),
                 shown.as_mut_ptr(),
@@ -389,7 +393,13 @@ impl<const CELLS: usize, const BITS: usize, const WORK: usize> Game<CELLS, BITS,
     pub fn view(&self) -> View<'_> {
         let p = &self.position;
         View {
-            settings: Settings { rows: p.rows, columns: p.columns, mode: p.mode, question: p.question == 1 },
+            settings: Settings {
+                rows: p.rows,
+                columns: p.columns,
+                mode: p.mode,
+                question: p.question == 1,
+                rules: p.rules,
+            },
             game: game_at(p.game),
             mouse: mouse_at(p.mouse),
             middle: p.middle == 1,

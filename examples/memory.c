@@ -69,7 +69,7 @@ static void ask(void)
 static void game(uint8_t mode)
 {
     lm_number_mines(rows, columns, list, 2 * listed, mines, cells);
-    position = lm_setup(rows, columns, mode, 1, LENT).position;
+    position = lm_setup(rows, columns, mode, 1, 1, LENT).position;
     for (size_t n = 0; n < 8 * cells && position.game != LM_WIN && position.game != LM_LOSS; n++) {
         size_t cell = draw((uint32_t)cells);
         uint8_t down = shown[cell] != LM_CLOSED ? LM_MC : mines[cell] == -1 ? LM_RC : LM_LC;

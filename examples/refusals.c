@@ -1,4 +1,4 @@
-// The refusals 20 to 264 and their places from C: each case of the table has its faults, and is held to its number and its place.
+// The refusals 20 to 264 and 45 and their places from C: each case of the table has its faults, and is held to its number and its place.
 // The status is 1 if one is another.
 #include <stdio.h>
 #include <string.h>
@@ -27,6 +27,7 @@ static void good(void)
     memset(&p, 0, sizeof p);
     p.rows = 3;
     p.columns = 3;
+    p.rules = 1;
     cells = 9;
     bytes = 2;
 }
@@ -75,11 +76,23 @@ static void position(const char *what, int number, int row, int column)
     good();
 }
 
+// Setup and reset refuse alike; a refused reset gives all of the position back.
+static void setup(const char *what, int number, int row, int column)
+{
+    hold("lm_setup", what, told(lm_setup(p.rows, p.columns, p.mode, 0, p.rules, mines, cells, shown, cells, bits, bytes)), number, row, column);
+    lm_answer a = lm_reset(p, mines, cells, shown, cells, bits, bytes);
+    hold("lm_reset", what, told(a), number, row, column);
+    if (number != 0 && memcmp(&a.position, &p, sizeof p) != 0) {
+        fprintf(stderr, "%s: a refused reset does not give all back\n", what);
+        wrong = 1;
+    }
+}
+
 // The board's own faults: the board check has them too, and so has setup, but for the mode.
 static void board(const char *what, int number, int row, int column)
 {
     hold("lm_check_board", what, lm_check_board(p.rows, p.columns, mines, cells), number, row, column);
-    hold("lm_setup", what, told(lm_setup(p.rows, p.columns, p.mode, 0, mines, cells, shown, cells, bits, bytes)), number, row, column);
+    setup(what, number, row, column);
     position(what, number, row, column);
 }
 
@@ -165,15 +178,26 @@ int main(void)
     mines[4] = 2;
     position("game 9 and (1,1) is 2", LM_BAD_COUNT, 1, 1);
     p.game = 9;
-    hold("lm_reset", "game 9", told(lm_reset(p, mines, cells, shown, cells, bits, bytes)), 0, LM_NOWHERE, LM_NOWHERE);
-    p.game = 9;
+    setup("game 9", 0, LM_NOWHERE, LM_NOWHERE);
     mines[4] = 2;
-    lm_answer a = lm_reset(p, mines, cells, shown, cells, bits, bytes);
-    hold("lm_reset", "game 9 and (1,1) is 2", told(a), LM_BAD_COUNT, 1, 1);
-    if (memcmp(&a.position, &p, sizeof p) != 0) {
-        fprintf(stderr, "a refused reset does not give all back\n");
-        wrong = 1;
+    setup("game 9 and (1,1) is 2", LM_BAD_COUNT, 1, 1);
+    good();
+
+    for (int rules = 0; rules <= 4; rules++) {
+        int allowed = rules == 1 || rules == 2;
+        p.rules = (uint8_t)rules;
+        setup("rules 0 to 4", allowed ? 0 : LM_BAD_RULES, LM_NOWHERE, LM_NOWHERE);
+        p.mode = 6;
+        setup("rules 0 to 4 and mode 6", LM_BAD_MODE, LM_NOWHERE, LM_NOWHERE);
+        p.mode = 0;
+        none("rules 0 to 4", allowed ? 0 : LM_UNLAWFUL_STATE);
     }
+    p.rules = 3;
+    p.flag = 5;
+    none("rules 3 and 5 flags", LM_UNLAWFUL_COUNT);
+    p.rules = 3;
+    p.game = 9;
+    none("rules 3 and game 9", LM_UNLAWFUL_STATE);
 
     printf("refusals: %u cases\n", cases);
     return wrong;

@@ -74,7 +74,7 @@ static void play(const char *folder, const struct game *g)
     size_t cells = LM_CELLS(b.rows, b.columns), bytes = LM_BITS(b.rows, b.columns), room = LM_WORK(b.rows, b.columns);
     if (wrong || cells > ROOM) exit(1);
     lm_number_mines(b.rows, b.columns, book + b.mines_at, 2 * b.mines, mines, cells);
-    lm_position fresh = lm_setup(b.rows, b.columns, b.mode, b.question, mines, cells, shown, cells, bits, bytes).position;
+    lm_position fresh = lm_setup(b.rows, b.columns, b.mode, b.question, b.rules, mines, cells, shown, cells, bits, bytes).position;
 
     lm_position p = fresh;
     const struct tick *t = g->ticks;
@@ -101,7 +101,7 @@ static void play(const char *folder, const struct game *g)
     hold(g->book, g->events, "opened by all events", together, g->together);
     hold(g->book, g->events, "events left in the table", t->event, 0);
 
-    lm_setup(b.rows, b.columns, b.mode, b.question, mines, cells, shown, cells, bits, bytes);
+    lm_setup(b.rows, b.columns, b.mode, b.question, b.rules, mines, cells, shown, cells, bits, bytes);
     unsigned before = open_cells(cells);
     lm_answer a = lm_step_flow(fresh, book + b.events_at, 3 * b.events, mines, cells, shown, cells, bits, bytes, work, room);
     hold(g->book, g->events, "the value of a row of events", a.value, 0);

@@ -42,8 +42,8 @@ extern "C" {
 #define LM_BITS(rows, columns) ((LM_CELLS(rows, columns) + 7) / 8)
 /* 16-bit numbers of work, at least. */
 #define LM_WORK(rows, columns) (8 * LM_CELLS(rows, columns) + 8)
-/* The bytes of the longest book: 5 of settings, 2,047 mines, 8,192 events. */
-#define LM_BOOK_MAX (5 + (2 + 2 * 2047) + (2 + 3 * LM_BOOK_EVENTS_MAX))
+/* The bytes of the longest book: 6 of settings, 2,047 mines, 8,192 events. */
+#define LM_BOOK_MAX (6 + (2 + 2 * 2047) + (2 + 3 * LM_BOOK_EVENTS_MAX))
 
 /* ---- the numbers that come back ---- */
 
@@ -65,18 +65,20 @@ enum lm_number {
     LM_BAD_COUNT = 23,       /* a safe cell's number is not its count of mine neighbours; row and column say which, the first in row order */
     LM_NO_SAFE_CELL = 24,    /* no cell is safe */
     LM_BAD_MODE = 25,        /* the mode is not allowed */
+    LM_BAD_RULES = 45,       /* the rules are not 1 or 2; setup and reset answer this, after 25, and a book (place 5) */
     LM_UNLAWFUL_SHOWN = 261, /* the shown board has a value that this game cannot show there */
     LM_UNLAWFUL_BITS = 262,  /* a bit is set that belongs to no mine */
     LM_UNLAWFUL_COUNT = 263, /* the flag count is not that of the shown board, or another count is above what events and open cells allow */
-    LM_UNLAWFUL_STATE = 264, /* the position is not one that its game state or mouse state can have, or a state byte of it means nothing */
+    LM_UNLAWFUL_STATE = 264, /* the position is not one that its game state or mouse state can have, a state byte of it means nothing, or its
+                                rules are not 1 or 2 */
     LM_BAD_POINTER = 30,     /* the pointer is neither a cell nor exactly (rows, columns) */
     LM_TOO_MANY_EVENTS = 31, /* 65,535 events were accepted */
     LM_BAD_PRE_FLAG = 32,    /* pf in Ready or PreFlaging, off the board or on a cell not showing 10 */
     LM_BAD_EVENT = 33,       /* an event that the game state does not take, or an unknown code while the game runs */
 
-    /* Refusals of a book, at the place of the first fault; 20, 24 and 25 are given too. */
+    /* Refusals of a book, at the place of the first fault; 20, 24, 25 and 45 are given too. */
     LM_BOOK_ENDS = 40,    /* the bytes end where more are due (place: the length) */
-    LM_BAD_SETTINGS = 41, /* the settings' count is not 4 (place 0), or question is not 0 or 1 (place 4) */
+    LM_BAD_SETTINGS = 41, /* the settings' count is not 4 or 5 (place 0), or question is not 0 or 1 (place 4) */
     LM_BAD_MINE = 42,     /* a mine is off the board or not after the one before it; numbering from a mine list answers this too */
     LM_LEFT_OVER = 43,    /* bytes are left over (the first) */
     LM_BOOK_TOO_LONG = 44 /* over 8,192 events (the count's first byte) */
@@ -117,18 +119,20 @@ enum lm_shown { LM_CLOSED = 10, LM_FLAG = 11, LM_WRONG_FLAG = 14, LM_MINE_HIT = 
 
 /* Modes: 0 to 5 play by hand alone; 11 and 14 chord by themselves, 12 and 15 flag by themselves, 13 and 16 do both. */
 
+/* The league's rules: 1, or 2, by which LM_R in LM_UP_DOWN_NOT_FLAG is a release. */
+
 /* ---- the position ---- */
 
 /* The position of a game, 52 bytes without padding. setup makes one; a caller keeps it and hands it to the next call. Any bytes are taken:
- * question or middle above 1, game above 4, mouse above 6 or spare not 0 means nothing. It is 264, where none of 20 to 263 applies; for them it
- * is read as the last state, or as 1. */
+ * question or middle above 1, game above 4 or mouse above 6 means nothing. It is 264, where none of 20 to 263 applies; for them it is read as
+ * the last state, or as 1. */
 typedef struct lm_position {
     uint8_t rows, columns, mode;
     uint8_t question;  /* 1: a flag may become a question mark */
     uint8_t game;      /* enum lm_game */
     uint8_t mouse;     /* enum lm_mouse */
     uint8_t middle;    /* 1: the middle button is down */
-    uint8_t spare;     /* 0 */
+    uint8_t rules;     /* the league's rules, 1 or 2 */
     uint32_t preflags; /* flags set before the first opening */
     uint32_t events;   /* accepted events */
     /* Counts that may be shown during the game. */
@@ -159,8 +163,9 @@ typedef struct lm_value {
 
 /* What a book says, or its first fault: then all but number and place are 0. */
 typedef struct lm_book {
-    uint32_t number; /* 0, or a refusal */
+    uint16_t number; /* 0, or a refusal */
     uint8_t rows, columns, mode, question;
+    uint8_t rules;    /* the league's rules, 1 where the book does not say them */
     size_t place;     /* of the fault */
     size_t mines_at;  /* where the mine list starts */
     size_t mines;     /* mines, of two bytes each: lm_number_mines takes them as they stand */
@@ -187,12 +192,12 @@ lm_value lm_total_3bv(uint8_t rows, uint8_t columns, const int8_t *mines, size_t
 
 /* ---- setup and reset ---- */
 
-/* A new game: every shown cell 10, every bit and count 0. 20 to 25, or 0. Any question other than 0 is 1. A refusal gives the fresh position of
+/* A new game: every shown cell 10, every bit and count 0. 20 to 25, 45, or 0. Any question other than 0 is 1. A refusal gives the fresh position of
  * these settings. What stood in shown and bits is of no matter. */
-lm_answer lm_setup(uint8_t rows, uint8_t columns, uint8_t mode, uint8_t question, const int8_t *mines, size_t mines_length, uint8_t *shown,
-                   size_t shown_length, uint8_t *bits, size_t bits_length);
+lm_answer lm_setup(uint8_t rows, uint8_t columns, uint8_t mode, uint8_t question, uint8_t rules, const int8_t *mines, size_t mines_length,
+                   uint8_t *shown, size_t shown_length, uint8_t *bits, size_t bits_length);
 
-/* Setup with the position's own settings: 20 to 25, or 0. It reads nothing else of the position, so it takes one that is unlawful too. */
+/* Setup with the position's own settings: 20 to 25, 45, or 0. It reads nothing else of the position, so it takes one that is unlawful too. */
 lm_answer lm_reset(lm_position position, const int8_t *mines, size_t mines_length, uint8_t *shown, size_t shown_length, uint8_t *bits,
                    size_t bits_length);
 
@@ -233,7 +238,7 @@ lm_answer lm_left_to_solve(lm_position position, const int8_t *mines, size_t min
 
 /* ---- the book ---- */
 
-/* Reads a game book: 0, or the first fault from the front, 40 to 44, 20, 24 or 25, with its byte place. Events are judged when played. */
+/* Reads a game book: 0, or the first fault from the front, 40 to 45, 20, 24 or 25, with its byte place. Events are judged when played. */
 lm_book lm_read_book(const uint8_t *book, size_t book_length);
 
 #ifdef __cplusplus

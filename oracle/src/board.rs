@@ -15,6 +15,10 @@ pub fn mode_allowed(mode: u16) -> bool {
     matches!(mode, 0..=5 | 11..=16)
 }
 
+pub fn rules_allowed(rules: u8) -> bool {
+    rules == 1 || rules == 2
+}
+
 /// The cells around a cell, in row order.
 pub fn neighbours(rows: usize, columns: usize, (row, column): (usize, usize)) -> impl Iterator<Item = (usize, usize)> {
     let down = row.saturating_sub(1)..=(row + 1).min(rows - 1);

@@ -1,6 +1,6 @@
 // Reading a game book: three sections, front to back; the first fault answers with its number and byte place.
 
-use crate::board::{mode_allowed, size_allowed};
+use crate::board::{mode_allowed, rules_allowed, size_allowed};
 use crate::game::Settings;
 
 pub const MOST_BOOK_EVENTS: usize = 8_192;
@@ -50,11 +50,13 @@ impl<'a> Reader<'a> {
     }
 
     fn settings(&mut self) -> Result<Settings, Fault> {
-        if self.take(1)?[0] != 4 {
+        let count = self.take(1)?[0];
+        if count != 4 && count != 5 {
             return fault(41, 0);
         }
-        let part = self.take(4)?;
+        let part = self.take(count.into())?;
         let (rows, columns, mode) = (usize::from(part[0]), usize::from(part[1]), u16::from(part[2]));
+        let rules = if count == 5 { part[4] } else { 1 };
         if part[3] > 1 {
             return fault(41, 4);
         }
@@ -64,7 +66,10 @@ impl<'a> Reader<'a> {
         if !mode_allowed(mode) {
             return fault(25, 3);
         }
-        Ok(Settings { rows, columns, mode, question: part[3] == 1 })
+        if !rules_allowed(rules) {
+            return fault(45, 5);
+        }
+        Ok(Settings { rows, columns, mode, question: part[3] == 1, rules })
     }
 
     fn mines(&mut self, settings: &Settings) -> Result<Vec<(usize, usize)>, Fault> {

@@ -69,7 +69,7 @@ fn small(random: &mut Random) -> Sections {
         1 => careless_game(random, game, length),
         _ => good_game(random, game, length),
     };
-    Sections::new(&layout, events)
+    Sections::new(random, &layout, events)
 }
 
 fn large(random: &mut Random) -> Sections {
@@ -81,14 +81,14 @@ fn large(random: &mut Random) -> Sections {
         4..=7 => careless_game(random, game, 400),
         _ => good_game(random, game, MOST_BOOK_EVENTS),
     };
-    Sections::new(&layout, events)
+    Sections::new(random, &layout, events)
 }
 
 fn deep(random: &mut Random) -> Sections {
     let layout = Layout::standard(random);
     let game = fresh(&layout);
     let events = good_game(random, game, MOST_BOOK_EVENTS);
-    Sections::new(&layout, events)
+    Sections::new(random, &layout, events)
 }
 
 fn damaged(random: &mut Random) -> Vec<u8> {

@@ -225,7 +225,7 @@ pub fn work(random: &mut Random, position: &Position) -> usize {
 
 /// Changes one thing; what comes out may be unlawful in one way or several, or lawful still.
 pub fn spoil(random: &mut Random, position: &mut Position, lent: &mut Lent) {
-    match random.below(26) {
+    match random.below(27) {
         0 => spoil_size(random, position, lent),
         1 => position.settings.mode = random.pick(&[6, 7, 8, 9, 10, 17, 18, 255]),
         2 => spoil_cells(random, lent, &[-128, -2, -1, 0, 8, 9, 10, 127]),
@@ -242,6 +242,7 @@ pub fn spoil(random: &mut Random, position: &mut Position, lent: &mut Lent) {
         19 => position.right = 0,
         20 => position.preflag = near(random, showing(lent, |shown| shown == 11)),
         21 | 22 => position.mouse = random.pick(&MOUSE_STATES),
+        23 => position.settings.rules = random.pick(&[0, 3, 4, 255]),
         _ => position.game = random.pick(&GAME_STATES),
     }
 }

@@ -1,7 +1,7 @@
-// A game: the Rust's board with what document 01 adds around its step, the refusals and the count of events.
+// A game: the Rust's board with what document 01 adds around its step, the refusals and the count of events, and the league's rules.
 
-use crate::board::{mode_allowed, numbered, size_allowed};
-use original::{GameBoardState, Original};
+use crate::board::{mode_allowed, numbered, rules_allowed, size_allowed};
+use original::{GameBoardState, MouseState, Original};
 
 pub const MOST_EVENTS: usize = 65_535;
 
@@ -26,18 +26,20 @@ pub struct Settings {
     pub columns: usize,
     pub mode: u16,
     pub question: bool,
+    pub rules: u8,
 }
 
 #[derive(Clone)]
 pub struct Game {
     pub board: Original,
     pub events: usize,
+    pub rules: u8,
 }
 
 impl Game {
-    /// Tests 20, 24 and 25; the mines are cells of the board, none twice.
+    /// Tests 20, 24, 25 and 45; the mines are cells of the board, none twice.
     pub fn setup(settings: Settings, mines: &[(usize, usize)]) -> Result<Game, u16> {
-        let Settings { rows, columns, mode, question } = settings;
+        let Settings { rows, columns, mode, question, rules } = settings;
         if !size_allowed(rows, columns) {
             return Err(20);
         }
@@ -47,10 +49,13 @@ impl Game {
         if !mode_allowed(mode) {
             return Err(25);
         }
+        if !rules_allowed(rules) {
+            return Err(45);
+        }
         let mut board = Original::new(numbered(rows, columns, mines));
         board.set_mode(mode);
         board.use_question = question;
-        Ok(Game { board, events: 0 })
+        Ok(Game { board, events: 0, rules })
     }
 
     /// Tests 30 to 33. The Rust changes nothing before an Err, and `steps` holds it to that, so 33 needs no undoing.
@@ -64,12 +69,22 @@ impl Game {
         if code == PF && self.panics_at_pf(row, column) {
             return 32;
         }
-        match self.board.step(name(code), (row, column)) {
+        match self.board.step(name(self.to_the_rust(code)), (row, column)) {
             Ok(answer) => {
                 self.events += 1;
                 answer.into()
             }
             Err(()) => 33,
+        }
+    }
+
+    /// Rules 2 are the league's and not the Rust's: where `r` is a release by them alone, the Rust is handed `rr`.
+    fn to_the_rust(&self, code: u8) -> u8 {
+        let released = self.rules == 2 && code == R && self.board.mouse_state == MouseState::UpDownNotFlag;
+        if released {
+            RR
+        } else {
+            code
         }
     }
 

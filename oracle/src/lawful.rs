@@ -1,6 +1,6 @@
 // The tests 20 to 264 of a position and what is lent with it, written from documents 01 and 02 alone.
 
-use crate::board::{mode_allowed, neighbours, size_allowed};
+use crate::board::{mode_allowed, neighbours, rules_allowed, size_allowed};
 use crate::game::MOST_EVENTS;
 use crate::position::{Lent, Position};
 use original::{GameBoardState, MouseState};
@@ -103,7 +103,7 @@ fn states(position: &Position, lent: &Lent) -> bool {
         GameBoardState::Win => !safe_unopened(lent),
         _ => true,
     };
-    by_game && (!not_flag || position.right >= 1)
+    by_game && (!not_flag || position.right >= 1) && rules_allowed(position.settings.rules)
 }
 
 fn safe_unopened(lent: &Lent) -> bool {

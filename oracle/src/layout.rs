@@ -1,4 +1,4 @@
-// Boards by chance: sizes, mine lists, modes.
+// Boards by chance: sizes, mine lists, modes, rules.
 
 use crate::board::{LARGEST_SIDE, MOST_CELLS};
 use crate::game::Settings;
@@ -18,7 +18,7 @@ impl Layout {
     fn new(random: &mut Random, (rows, columns): (usize, usize), mine_count: usize) -> Layout {
         // Every second board has an automatic mode: the passes are where games differ most.
         let mode = if random.chance(50) { random.pick(&MODES[6..]) } else { random.pick(&MODES) };
-        let settings = Settings { rows, columns, mode, question: random.chance(40) };
+        let settings = Settings { rows, columns, mode, question: random.chance(40), rules: random.pick(&[1, 2]) };
         Layout { settings, mines: mines(random, rows, columns, mine_count) }
     }
 

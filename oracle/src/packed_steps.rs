@@ -3,18 +3,20 @@
 use crate::position::{Lent, Position};
 use crate::steps::Step;
 
-/// A position's first numbers have one byte each, the others four.
+/// A position's first numbers have one byte each, the others four; the last, its rules, has one byte behind the event.
 const SHORT_NUMBERS: usize = 7;
 
-/// Between the event and the lengths, for numbers to come: written 0 and not read.
-const RESERVED: usize = 18;
+/// Between the rules and the lengths, for numbers to come: written 0 and not read.
+const RESERVED: usize = 17;
 
 pub fn pack(out: &mut Vec<u8>, step: &Step) {
     let Lent { mines, shown, bits } = &step.lent;
-    for (place, number) in step.position.numbers().into_iter().enumerate() {
+    let [before @ .., rules] = step.position.numbers();
+    for (place, number) in before.into_iter().enumerate() {
         put(out, number, if place < SHORT_NUMBERS { 1 } else { 4 });
     }
     out.extend(step.event);
+    put(out, rules, 1);
     out.extend([0; RESERVED]);
     for length in [mines.len(), shown.len(), bits.len(), step.work] {
         put(out, length, 2);
@@ -43,12 +45,14 @@ pub fn unpack(stream: &[u8]) -> Result<Vec<Step>, String> {
 }
 
 fn first(rest: &mut &[u8]) -> Option<Step> {
-    let mut numbers = [0; 18];
-    for (place, number) in numbers.iter_mut().enumerate() {
+    let mut numbers = [0; 19];
+    let [before @ .., rules] = &mut numbers;
+    for (place, number) in before.iter_mut().enumerate() {
         *number = take(rest, if place < SHORT_NUMBERS { 1 } else { 4 })?;
     }
-    let position = Position::from_numbers(numbers)?;
     let event = bytes(rest, 3)?.try_into().ok()?;
+    *rules = take(rest, 1)?;
+    let position = Position::from_numbers(numbers)?;
     bytes(rest, RESERVED)?;
     let [mines, shown, bits, work] = [take(rest, 2)?, take(rest, 2)?, take(rest, 2)?, take(rest, 2)?];
     let mines = bytes(rest, mines)?.iter().map(|&byte| byte as i8).collect();

@@ -50,8 +50,8 @@ pub struct Lent {
 }
 
 impl Position {
-    /// The eighteen numbers of a position, in the order that a step has them.
-    pub fn numbers(&self) -> [usize; 18] {
+    /// The nineteen numbers of a position, in the order that a step has them.
+    pub fn numbers(&self) -> [usize; 19] {
         [
             self.settings.rows,
             self.settings.columns,
@@ -71,16 +71,17 @@ impl Position {
             self.flag,
             self.solved_left,
             self.solved_chord,
+            self.settings.rules.into(),
         ]
     }
 
     /// And back; None where a state, a yes or a no is none.
-    pub fn from_numbers(numbers: [usize; 18]) -> Option<Position> {
+    pub fn from_numbers(numbers: [usize; 19]) -> Option<Position> {
         let [rows, columns, mode, question, game, mouse, middle, preflag, events, counts @ ..] = numbers;
-        let [left, right, double, lce, rce, dce, flag, solved_left, solved_chord] = counts;
-        let mode = mode.try_into().ok()?;
+        let [left, right, double, lce, rce, dce, flag, solved_left, solved_chord, rules] = counts;
+        let (mode, rules) = (mode.try_into().ok()?, rules.try_into().ok()?);
         Some(Position {
-            settings: Settings { rows, columns, mode, question: yes_or_no(question)? },
+            settings: Settings { rows, columns, mode, question: yes_or_no(question)?, rules },
             game: *GAME_STATES.get(game)?,
             mouse: *MOUSE_STATES.get(mouse)?,
             middle: yes_or_no(middle)?,
@@ -136,7 +137,7 @@ impl Game {
             pre_flag_num: position.preflag,
             middle_hold: position.middle,
         });
-        Game { board, events: position.events }
+        Game { board, events: position.events, rules: position.settings.rules }
     }
 
     pub fn position(&self) -> Position {
@@ -148,6 +149,7 @@ impl Game {
                 columns: board.column,
                 mode: board.mode,
                 question: board.use_question,
+                rules: self.rules,
             },
             game: board.game_board_state,
             mouse: board.mouse_state,

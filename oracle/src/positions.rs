@@ -1,4 +1,5 @@
-// The P and Run positions of document 01, played on the Rust; each holds what was seen beside what the paper tells.
+// The P and Run positions of document 01, and the league's rules of document 02, played on the Rust; each holds what was seen beside what the paper
+// tells.
 
 use crate::game::*;
 use crate::printout::{printout, spaced};
@@ -49,6 +50,11 @@ fn positions() -> Vec<Told> {
         last_event(),
         pf_while_playing(),
         panics(),
+        books_by_rules(),
+        faults_of_five_settings(),
+        r_by_rules(),
+        r_by_rules_before_play(),
+        setup_by_rules(),
     ]
 }
 
@@ -115,7 +121,7 @@ fn pass_loses() -> Told {
 }
 
 fn pre_flags_with_questions() -> Told {
-    let settings = Settings { rows: 1, columns: 3, mode: 0, question: true };
+    let settings = Settings { rows: 1, columns: 3, mode: 0, question: true, rules: 1 };
     let mut game = Game::setup(settings, &[(0, 1)]).expect("a lawful setup");
     for column in [0, 2, 0, 2] {
         game.flag(0, column);
@@ -228,12 +234,71 @@ fn panics() -> Told {
     )
 }
 
+/// The worked book with five settings bytes.
+fn worked_by(rules: u8) -> String {
+    printout(&[&[5, 1, 3, 0, 0, rules], &WORKED_BOOK[5..]].concat())
+}
+
+fn books_by_rules() -> Told {
+    let told = [WORKED_PRINTOUT, WORKED_PRINTOUT, "refused 45 at 5\n", "refused 45 at 5\n"].concat();
+    position("Req 06: the printout by rules 1, 2, 0 and 3", [1, 2, 0, 3].map(worked_by).concat(), told)
+}
+
+fn faults_of_five_settings() -> Told {
+    let books: [(&[u8], &str); 12] = [
+        (&[5], "40 at 1"),
+        (&[5, 1, 3, 0, 7], "40 at 5"),
+        (&[5, 0, 3, 99, 7, 9], "41 at 4"),
+        (&[5, 0, 3, 99, 1, 9], "20 at 1"),
+        (&[5, 1, 3, 99, 1, 9], "25 at 3"),
+        (&[5, 1, 3, 0, 1, 9], "45 at 5"),
+        (&[5, 1, 3, 0, 1, 2], "40 at 6"),
+        (&[5, 1, 3, 0, 0, 2, 3, 0], "24 at 6"),
+        (&[5, 1, 3, 0, 0, 2, 1, 0, 1, 0], "42 at 8"),
+        (&[6, 1, 3, 0, 0, 2], "41 at 0"),
+        (&[4, 1, 3, 0, 1], "40 at 5"),
+        (&[4, 1, 3, 0, 1, 3, 0], "24 at 5"),
+    ];
+    let seen = books.map(|(book, _)| printout(book)).concat();
+    position("Req 06: the faults of five settings bytes", seen, books.map(|(_, told)| format!("refused {told}\n")).concat())
+}
+
+/// The answer and the states of the last of these events, by rules 1 and by rules 2.
+fn last_by_rules(events: &[(u8, usize, usize)]) -> String {
+    let by = |rules| {
+        let settings = Settings { rows: 1, columns: 3, mode: 0, question: false, rules };
+        let mut game = Game::setup(settings, &[(0, 0)]).expect("a lawful setup");
+        let answers = events.iter().map(|&(code, row, column)| game.step(code, row, column));
+        let last = answers.last().expect("some event");
+        format!("{last} {} {}", game.state_number(), game.mouse_number())
+    };
+    format!("{}, {}", by(1), by(2))
+}
+
+fn r_by_rules() -> Told {
+    let seen = last_by_rules(&[(LC, 0, 1), (LR, 0, 1), (RC, 0, 1), (R, 0, 1)]);
+    position("Req 06: 1x3, mine (0,0); open (0,1), rc (0,1), r (0,1)", seen, "0 1 2, 0 1 0")
+}
+
+fn r_by_rules_before_play() -> Told {
+    let seen = last_by_rules(&[(RC, 0, 1), (RR, 0, 1), (RC, 1, 3), (R, 0, 0)]);
+    position("Req 06: 1x3, mine (0,0); rc, rr (0,1), rc off the board, r (0,0)", seen, "33 4 2, 0 4 0")
+}
+
+fn setup_by_rules() -> Told {
+    let answer = |mode| {
+        let settings = Settings { rows: 1, columns: 3, mode, question: false, rules: 3 };
+        Game::setup(settings, &[(0, 0)]).err().unwrap_or(0)
+    };
+    position("Req 06: setup by rules 3, mode 6 and mode 0", format!("{} {}", answer(6), answer(0)), "25 45")
+}
+
 fn new(rows: usize, columns: usize, mode: u16, mines: &[(usize, usize)]) -> Game {
-    Game::setup(Settings { rows, columns, mode, question: false }, mines).expect("a lawful setup")
+    Game::setup(Settings { rows, columns, mode, question: false, rules: 1 }, mines).expect("a lawful setup")
 }
 
 fn setup_answer(rows: usize, columns: usize, mines: &[(usize, usize)]) -> u16 {
-    Game::setup(Settings { rows, columns, mode: 0, question: false }, mines).err().unwrap_or(0)
+    Game::setup(Settings { rows, columns, mode: 0, question: false, rules: 1 }, mines).err().unwrap_or(0)
 }
 
 impl Game {

@@ -8,7 +8,7 @@ use crate::random::Random;
 /// A book before it is bytes. The counts stand apart from what they count, so that they can be wrong.
 pub struct Sections {
     settings_count: u8,
-    settings: [u8; 4],
+    settings: Vec<u8>,
     mine_count: u16,
     mines: Vec<[u8; 2]>,
     event_count: u16,
@@ -17,11 +17,16 @@ pub struct Sections {
 }
 
 impl Sections {
-    pub fn new(layout: &Layout, events: Vec<Record>) -> Sections {
+    /// Rules 1 may be said or not.
+    pub fn new(random: &mut Random, layout: &Layout, events: Vec<Record>) -> Sections {
         let s = layout.settings;
+        let mut settings = vec![s.rows as u8, s.columns as u8, s.mode as u8, s.question.into()];
+        if s.rules != 1 || random.chance(30) {
+            settings.push(s.rules);
+        }
         Sections {
-            settings_count: 4,
-            settings: [s.rows as u8, s.columns as u8, s.mode as u8, s.question.into()],
+            settings_count: settings.len() as u8,
+            settings,
             mine_count: layout.mines.len() as u16,
             mines: layout.mines.iter().map(|&(row, column)| [row as u8, column as u8]).collect(),
             event_count: events.len() as u16,
@@ -32,7 +37,7 @@ impl Sections {
 
     pub fn bytes(&self) -> Vec<u8> {
         let mut bytes = vec![self.settings_count];
-        bytes.extend(self.settings);
+        bytes.extend(&self.settings);
         bytes.extend(self.mine_count.to_le_bytes());
         bytes.extend(self.mines.concat());
         bytes.extend(self.event_count.to_le_bytes());
@@ -43,8 +48,8 @@ impl Sections {
 
     /// One fault; several together show in which order the tests stand.
     pub fn damage(&mut self, random: &mut Random) {
-        match random.below(14) {
-            0 => self.settings_count = random.pick(&[0, 1, 3, 5, 9, 255]),
+        match random.below(15) {
+            0 => self.settings_count = random.pick(&[0, 1, 3, 4, 5, 6, 9, 255]),
             1 => self.settings[3] = random.pick(&[2, 3, 17, 128, 255]),
             2 => self.damage_size(random),
             3 => self.settings[2] = random.pick(&[6, 7, 8, 9, 10, 17, 18, 255]),
@@ -55,6 +60,7 @@ impl Sections {
             9 => self.event_count = beside(random, self.event_count),
             10 => self.event_count = random.pick(&[MOST_BOOK_EVENTS as u16, MOST_BOOK_EVENTS as u16 + 1, 65_535]),
             11 => self.left_over = vec![random.byte(); random.between(1, 4)],
+            12 => self.damage_rules(random),
             _ => self.any_byte(random),
         }
     }
@@ -66,6 +72,13 @@ impl Sections {
         self.settings[1] = columns;
     }
 
+    /// A rules byte where there was none, too.
+    fn damage_rules(&mut self, random: &mut Random) {
+        self.settings.resize(4, 0);
+        self.settings.push(random.pick(&[0, 0, 3, 3, 4, 255]));
+        self.settings_count = 5;
+    }
+
     /// As many mines as cells is the least that 24 answers; one fewer is allowed.
     fn near_cells(&self, random: &mut Random) -> u16 {
         let cells = u16::from(self.settings[0]) * u16::from(self.settings[1]);
@@ -73,7 +86,7 @@ impl Sections {
     }
 
     fn mine_off_board(&mut self, random: &mut Random) {
-        let [rows, columns, ..] = self.settings;
+        let (rows, columns) = (self.settings[0], self.settings[1]);
         let mine = random.pick(&[[rows, 0], [0, columns], [rows, columns], [255, 255]]);
         if self.mines.is_empty() {
             self.mine_count = 1;

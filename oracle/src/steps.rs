@@ -4,7 +4,8 @@
 //              preflag events left right double lce rce dce flag
 //              solved_left solved_chord                                       11 numbers of four bytes
 //   event      code row column                                                3 numbers of one byte
-//   reserved   0, not read                                                    18 bytes
+//   position   rules                                                          1 number of one byte
+//   reserved   0, not read                                                    17 bytes
 //   lengths    of the mine board, the shown board, the bits and the work      4 numbers of two bytes
 //   mines      the mine board, 255 for a mine                                 its length in bytes
 //   shown      the shown board                                                its length in bytes
@@ -16,7 +17,7 @@
 //   answer     0 to 4, or the refusal                                         1 number
 //   place      row and column of the faulty cell, or 255 255                  2 numbers
 //   opened     cells that show 0 to 8 after the step and did not before       1 number
-//   position   after the step, as above                                       18 numbers
+//   position   after the step, as above, the rules last                       19 numbers
 //   shown      after the step                                                 as many as were lent
 //   bits       after the step                                                 as many as were lent
 //
@@ -131,9 +132,10 @@ impl Step {
 
     fn numbers(&self) -> Vec<usize> {
         let Lent { mines, shown, bits } = &self.lent;
-        let mut numbers = self.position.numbers().to_vec();
+        let [before @ .., rules] = self.position.numbers();
+        let mut numbers = before.to_vec();
         extend(&mut numbers, &self.event);
-        numbers.extend([mines.len(), shown.len(), bits.len(), self.work]);
+        numbers.extend([rules, mines.len(), shown.len(), bits.len(), self.work]);
         numbers.extend(mines.iter().map(|&cell| usize::from(cell as u8)));
         extend(&mut numbers, shown);
         extend(&mut numbers, bits);

@@ -85,6 +85,7 @@ pub extern "C" fn bench_flow(
         columns,
         mode,
         question,
+        rules: 1,
     };
     let a = flow(settings, events, mines, &mut *shown, &mut *bits, &mut *work);
     let p = a.position;
@@ -114,6 +115,7 @@ pub extern "C" fn bench_step(
         columns,
         mode,
         question,
+        rules: 1,
     };
     let a = flow(settings, events, mines, &mut *shown, &mut *bits, &mut *work);
     let p = a.position;

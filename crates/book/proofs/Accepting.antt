@@ -1,6 +1,6 @@
 -- What is accepted: exactly the byte strings that are laid out as a book; every other one is refused, with nothing read.
 use mathlib.Core.Path.{_≡_, _∙_, sym, ap, refl, subst, subst⁻¹}
-use mathlib.Core.Bool.{Bool, true, false, false≢true}
+use mathlib.Core.Bool.{Bool, true, false, _||_, false≢true}
 use mathlib.Core.List.{List}
 use Prim.Native.Nat.{ℕ, zero, suc, _+_, _*_, _<_, _≤_}
 use native.Mathlib.Omega.{arith}
@@ -13,13 +13,14 @@ use Rattle.rules.specs.declared.Book.{Book}
 use Rattle.rules.specs.Words.{pick, every}
 use Rattle.rules.specs.Grid.{sizeOk}
 use Rattle.rules.specs.Board.{mineOk}
+use Rattle.rules.specs.Mouse.{rulesOk}
 use Rattle.rules.specs.Calls.{modeOk}
-use Rattle.rules.specs.Book.{refusedBook, orElse, reaches, byteAt, wordAt, settingsAt, maxEvents, minesFrom, minesSection, eventsFrom, settingsSection, mineCountAt, sectionsOf, eventsEnd, bookEnds, bookOf, minesOf, eventsOf, partOf}
+use Rattle.rules.specs.Book.{refusedBook, orElse, reaches, byteAt, wordAt, rulesAt, settingsAt, maxEvents, minesFrom, minesSection, eventsFrom, settingsSection, mineCountAt, sectionsOf, eventsEnd, bookEnds, bookOf, minesOf, eventsOf, partOf}
 use Rattle.book.specs.Laid.{SettingsLaid, LaidFrom, Laid, readFrom, laidBook, eventCountAt, endAt}
 use Rattle.book.specs.Written.{longestFrom, longest}
 use Rattle.cells.proofs.Words.{pick-both, every-at, every-turn}
 use Rattle.cells.proofs.Grid.{size-limits}
-use Rattle.book.proofs.Reading.{part-there, mines-none, mines-right, mines-counted, settings-right, end-right}
+use Rattle.book.proofs.Reading.{part-there, mines-none, mines-right, mines-counted, count-bounds, settings-right, end-right}
 
 -- ---- a test that an accepted book passed -----------------------------------------------------------------------------------------------
 
@@ -116,29 +117,32 @@ module _ (s : List ℕ) (rest : Book) where
   settings-passed : settingsSection s rest .number ≡ 0 → SettingsLaid s × (rest .number ≡ 0)
   unfolding settingsSection
   settings-passed e =
-      let from-mode : Book = orElse 25 3 (modeOk (byteAt s 3)) rest in
+      let from-rules : Book = orElse 45 5 (rulesOk (rulesAt s)) rest in
+      let from-mode : Book = orElse 25 3 (modeOk (byteAt s 3)) from-rules in
       let from-size : Book = orElse 20 1 (sizeOk (byteAt s 1) (byteAt s 2)) from-mode in
       let from-question : Book = orElse 41 4 (leb (byteAt s 4) 1) from-size in
-      let from-five : Book = orElse 40 (length s) (leb 5 (length s)) from-question in
-      let from-four : Book = orElse 41 0 (eqb (byteAt s 0) 4) from-five in
-      let some = passed 40 (length s) (leb 1 (length s)) from-four (omega arith) e in
-      let four = passed 41 0 (eqb (byteAt s 0) 4) from-five (omega arith) (some .1) in
-      let five = passed 40 (length s) (leb 5 (length s)) from-question (omega arith) (four .1) in
-      let question = passed 41 4 (leb (byteAt s 4) 1) from-size (omega arith) (five .1) in
+      let from-there : Book = orElse 40 (length s) (leb (mineCountAt s) (length s)) from-question in
+      let from-count : Book = orElse 41 0 (eqb (byteAt s 0) 4 || eqb (byteAt s 0) 5) from-there in
+      let some = passed 40 (length s) (leb 1 (length s)) from-count (omega arith) e in
+      let count = passed 41 0 (eqb (byteAt s 0) 4 || eqb (byteAt s 0) 5) from-there (omega arith) (some .1) in
+      let there = passed 40 (length s) (leb (mineCountAt s) (length s)) from-question (omega arith) (count .1) in
+      let question = passed 41 4 (leb (byteAt s 4) 1) from-size (omega arith) (there .1) in
       let size = passed 20 1 (sizeOk (byteAt s 1) (byteAt s 2)) from-mode (omega arith) (question .1) in
-      let mode = passed 25 3 (modeOk (byteAt s 3)) rest (omega arith) (size .1) in (
+      let mode = passed 25 3 (modeOk (byteAt s 3)) from-rules (omega arith) (size .1) in
+      let rules = passed 45 5 (rulesOk (rulesAt s)) rest (omega arith) (mode .1) in
+      let bounds = count-bounds (byteAt s 0) (count .0) in (
         record {
-          four = eqb-true _ _ (four .0);
-          five = leb-true _ _ (five .0);
+          counted = record { least = bounds .0; most = bounds .1; there = leb-true _ _ (there .0) };
           question = leb-true _ _ (question .0);
           size = size .0;
           mode = mode .0;
+          rules = rules .0;
         },
-        mode .1,
+        rules .1,
       )
 
   settings-read : SettingsLaid s → settingsSection s rest ≡ rest
-  settings-read l = settings-right s rest (l .four) (l .five) (le-leb _ _ (l .question)) (l .size) (l .mode)
+  settings-read l = settings-right s rest (l .counted) (le-leb _ _ (l .question)) (l .size) (l .mode) (l .rules)
 
 -- ---- the whole book --------------------------------------------------------------------------------------------------------------------
 
@@ -154,7 +158,7 @@ sections-read s g l = settings-read s (minesSection s (mineCountAt s) (settingsA
 -- they end no later than those of the longest book
 laid-short : (s : List ℕ) → SettingsLaid s → LaidFrom s (mineCountAt s) (settingsAt s) → endAt s (mineCountAt s) ≤ longest
 laid-short s g l =
-    omega (arith, g .four, section-short s (mineCountAt s) (settingsAt s) (size-limits (byteAt s 1) (byteAt s 2) (g .size) .cells) l)
+    omega (arith, g .counted .most, section-short s (mineCountAt s) (settingsAt s) (size-limits (byteAt s 1) (byteAt s 2) (g .size) .cells) l)
 
 pub sections-short : (s : List ℕ) → sectionsOf s .number ≡ 0 → eventsEnd (sectionsOf s) ≤ longest
 sections-short s z =
@@ -235,11 +239,12 @@ settings-answered : (s : List ℕ) {rest : Book} → Answered rest → Answered 
 unfolding settingsSection
 settings-answered s a =
     reaches-answered s 1
-    (or-else-answered 41 0 (eqb (byteAt s 0) 4) (omega arith)
-    (reaches-answered s 5
+    (or-else-answered 41 0 (eqb (byteAt s 0) 4 || eqb (byteAt s 0) 5) (omega arith)
+    (reaches-answered s (mineCountAt s)
     (or-else-answered 41 4 (leb (byteAt s 4) 1) (omega arith)
     (or-else-answered 20 1 (sizeOk (byteAt s 1) (byteAt s 2)) (omega arith)
-    (or-else-answered 25 3 (modeOk (byteAt s 3)) (omega arith) a)))))
+    (or-else-answered 25 3 (modeOk (byteAt s 3)) (omega arith)
+    (or-else-answered 45 5 (rulesOk (rulesAt s)) (omega arith) a))))))
 
 sections-answered : (s : List ℕ) → Answered (sectionsOf s)
 unfolding sectionsOf

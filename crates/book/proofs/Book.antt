@@ -10,9 +10,9 @@ use Rattle.rules.specs.declared.Book.{Book}
 use Rattle.rules.specs.Board.{numberingRefusal}
 use Rattle.rules.specs.Book.{bookOf, minesOf, eventsOf, partOf}
 use Rattle.book.specs.Laid.{Laid}
-use Rattle.book.specs.Written.{written, Writable, Bytes, IsWritten}
+use Rattle.book.specs.Written.{Form, formOf, written, Writable, Bytes, IsWritten}
 use Rattle.book.proofs.Accepting.{laid-read}
-use Rattle.book.proofs.Writing.{written-read, written-mines, written-events, accepted-writable, accepted-written}
+use Rattle.book.proofs.Writing.{written-read, written-form, written-mines, written-events, accepted-writable, accepted-written}
 
 -- ---- any two outcomes that the contracts allow are equal -------------------------------------------------------------------------------
 
@@ -30,6 +30,7 @@ laid-accepted s l = ap (λ (b : Book). b .number) (laid-read s l)
 pub accepted-is-written : (s : List ℕ) → Bytes s → bookOf s .number ≡ 0 → IsWritten s
 accepted-is-written s bytes e =
     record {
+      form = formOf s;
       settings = bookOf s .settings;
       mines = minesOf s (bookOf s);
       events = eventsOf s (bookOf s);
@@ -40,30 +41,33 @@ accepted-is-written s bytes e =
 pub written-accepted : (s : List ℕ) → IsWritten s → bookOf s .number ≡ 0
 written-accepted s w =
     ap (λ (t : List ℕ). bookOf t .number) (w .same)
-    ∙ ap (λ (b : Book). b .number) (written-read (w .settings) (w .mines) (w .events) (w .writable))
+    ∙ ap (λ (b : Book). b .number) (written-read (w .form) (w .settings) (w .mines) (w .events) (w .writable))
 
 -- two readings of one book agree
-pub written-one : (g g′ : Settings) (ms ms′ es es′ : List ℕ) → Writable g ms es → Writable g′ ms′ es′ → written g ms es ≡ written g′ ms′ es′
-    → (g ≡ g′) × ((ms ≡ ms′) × (es ≡ es′))
-written-one g g′ ms ms′ es es′ w w′ e = (
-  sym (ap (λ (b : Book). b .settings) (written-read g ms es w)) ∙ ap (λ (s : List ℕ). bookOf s .settings) e
-      ∙ ap (λ (b : Book). b .settings) (written-read g′ ms′ es′ w′),
+pub written-one : (f f′ : Form) (g g′ : Settings) (ms ms′ es es′ : List ℕ) → Writable f g ms es → Writable f′ g′ ms′ es′ → written f g ms es ≡ written f′ g′ ms′ es′
+    → (f ≡ f′) × ((g ≡ g′) × ((ms ≡ ms′) × (es ≡ es′)))
+written-one f f′ g g′ ms ms′ es es′ w w′ e = (
+  sym (written-form f g ms es w) ∙ ap formOf e ∙ written-form f′ g′ ms′ es′ w′,
   (
-    sym (written-mines g ms es w) ∙ ap (λ (s : List ℕ). minesOf s (bookOf s)) e ∙ written-mines g′ ms′ es′ w′,
-    sym (written-events g ms es w) ∙ ap (λ (s : List ℕ). eventsOf s (bookOf s)) e ∙ written-events g′ ms′ es′ w′,
+    sym (ap (λ (b : Book). b .settings) (written-read f g ms es w)) ∙ ap (λ (s : List ℕ). bookOf s .settings) e
+        ∙ ap (λ (b : Book). b .settings) (written-read f′ g′ ms′ es′ w′),
+    (
+      sym (written-mines f g ms es w) ∙ ap (λ (s : List ℕ). minesOf s (bookOf s)) e ∙ written-mines f′ g′ ms′ es′ w′,
+      sym (written-events f g ms es w) ∙ ap (λ (s : List ℕ). eventsOf s (bookOf s)) e ∙ written-events f′ g′ ms′ es′ w′,
+    ),
   ),
 )
 
 -- ---- what an accepted book may be used for ---------------------------------------------------------------------------------------------
 
 -- its mine list passes every test of numbering
-pub writable-numbers : (g : Settings) (ms es : List ℕ) (B : List ℤ) → Writable g ms es → length B ≡ g .rows * g .columns
+pub writable-numbers : (f : Form) (g : Settings) (ms es : List ℕ) (B : List ℤ) → Writable f g ms es → length B ≡ g .rows * g .columns
     → numberingRefusal (g .rows) (g .columns) ms B ≡ 0
 unfolding numberingRefusal
-writable-numbers g ms es B w fits =
+writable-numbers f g ms es B w fits =
     simp (w .size, eq-eqb _ _ fits, eq-eqb _ _ (w .pairs), w .rising, lt-ltb _ _ (w .fewer))
 
 pub accepted-numbers : (s : List ℕ) (B : List ℤ) → bookOf s .number ≡ 0 → length B ≡ bookOf s .settings .rows * bookOf s .settings .columns
     → numberingRefusal (bookOf s .settings .rows) (bookOf s .settings .columns) (minesOf s (bookOf s)) B ≡ 0
 accepted-numbers s B e fits =
-    writable-numbers (bookOf s .settings) (minesOf s (bookOf s)) (eventsOf s (bookOf s)) B (accepted-writable s e) fits
+    writable-numbers (formOf s) (bookOf s .settings) (minesOf s (bookOf s)) (eventsOf s (bookOf s)) B (accepted-writable s e) fits

@@ -3,3 +3,4 @@ pub mod Accepting
 pub mod Writing
 pub mod Book
 pub mod Prefix
+pub mod Before

@@ -1,23 +1,25 @@
 -- Nothing past the longest book is read: a longer byte string and its first bytes get the same answer, so that a reader may stop there.
 use mathlib.Core.Path.{_≡_, _∙_, sym, ap, ap₂, refl}
-use mathlib.Core.Bool.{Bool, true, false}
+use mathlib.Core.Bool.{Bool, true, false, _||_}
 use mathlib.Core.List.{List}
 use Prim.Native.Nat.{ℕ, zero, suc, _+_, _*_, _<_, _≤_}
 use native.Mathlib.Omega.{arith}
 use native.Mathlib.Decide.{decLt, ℕ-discrete}
-use borrow.Author.Tests.{le-leb, lt-leb, eqb-true, ne-eqb}
+use borrow.Author.Tests.{le-leb, lt-leb, ne-eqb}
 use lib.Dec.{leb, eqb}
 use lib.ListN.{length, take, drop}
 use lib.Seq.{length-take-le, take-all, getD-take, getD-drop}
 use Rattle.rules.specs.declared.Settings.{Settings}
 use Rattle.rules.specs.declared.Book.{Book}
+use Rattle.rules.specs.Words.{pick}
 use Rattle.rules.specs.Grid.{sizeOk}
 use Rattle.rules.specs.Board.{mineOk}
+use Rattle.rules.specs.Mouse.{rulesOk}
 use Rattle.rules.specs.Calls.{modeOk}
-use Rattle.rules.specs.Book.{refusedBook, orElse, reaches, byteAt, wordAt, settingsAt, maxEvents, minesFrom, minesSection, eventsFrom, settingsSection, mineCountAt, sectionsOf, eventsEnd, bookEnds, bookOf}
+use Rattle.rules.specs.Book.{refusedBook, orElse, reaches, byteAt, wordAt, rulesAt, settingsAt, maxEvents, minesFrom, minesSection, eventsFrom, settingsSection, mineCountAt, sectionsOf, eventsEnd, bookEnds, bookOf}
 use Rattle.rules.specs.Printout.{printoutBy, printoutOf}
 use Rattle.book.specs.Written.{longestFrom, longest}
-use Rattle.book.proofs.Reading.{mines-too-many, mines-counted, end-unread, end-over}
+use Rattle.book.proofs.Reading.{mines-too-many, mines-counted, count-bounds, end-unread, end-over}
 use Rattle.book.proofs.Accepting.{events-pass, sections-short, accepted-longest}
 use Rattle.book.proofs.Writing.{mine-same}
 use Rattle.cells.proofs.Grid.{size-limits}
@@ -52,11 +54,14 @@ module _ (s : List ℕ) (n : ℕ) (long : longest < n) (more : n ≤ length s) w
       let high : byteAt cut (at + 1) ≡ byteAt s (at + 1) = byte-same (at + 1) h in
       cc
 
-  reaches-same : (end : ℕ) {rest rest′ : Book} → end ≤ n → rest ≡ rest′ → reaches cut end rest ≡ reaches s end rest′
-  reaches-same end h e =
+  reaches-both : (end end′ : ℕ) {rest rest′ : Book} → end ≤ n → end′ ≤ n → rest ≡ rest′ → reaches cut end rest ≡ reaches s end′ rest′
+  reaches-both end end′ h h′ e =
       let short : end ≤ length cut = omega (arith, cut-length) in
-      let whole : end ≤ length s = omega arith in
+      let whole : end′ ≤ length s = omega arith in
       simp (le-leb _ _ short, le-leb _ _ whole) e
+
+  reaches-same : (end : ℕ) {rest rest′ : Book} → end ≤ n → rest ≡ rest′ → reaches cut end rest ≡ reaches s end rest′
+  reaches-same end h e = reaches-both end end h h e
 
   events-same : (at : ℕ) (g : Settings) (minesAt k : ℕ) → at + 2 + 3 * maxEvents ≤ n → eventsFrom cut at g minesAt k ≡ eventsFrom s at g minesAt k
   events-same at g minesAt k h = either (decLt maxEvents (wordAt s at))
@@ -103,12 +108,16 @@ module _ (s : List ℕ) (n : ℕ) (long : longest < n) (more : n ≤ length s) w
           mines-too-many cut at g (wordAt cut at) (g .rows * g .columns) (omega (arith, cut-length)) refl refl (omega (arith, counts))
           ∙ sym (mines-too-many s at g (wordAt s at) (g .rows * g .columns) (omega arith) refl refl (omega arith))
 
+  rules-same : rulesAt cut ≡ rulesAt s
+  rules-same = ap₂ (λ (b r : ℕ). pick (eqb b 5) r 1) (byte-same 0 (omega arith)) (byte-same 5 (omega arith))
+
   settings-same : settingsAt cut ≡ settingsAt s
   settings-same =
       let rows : byteAt cut 1 ≡ byteAt s 1 = byte-same 1 (omega arith) in
       let columns : byteAt cut 2 ≡ byteAt s 2 = byte-same 2 (omega arith) in
       let mode : byteAt cut 3 ≡ byteAt s 3 = byte-same 3 (omega arith) in
       let question : byteAt cut 4 ≡ byteAt s 4 = byte-same 4 (omega arith) in
+      let rules : rulesAt cut ≡ rulesAt s = rules-same in
       cc
 
   sections-same : sectionsOf cut ≡ sectionsOf s
@@ -117,14 +126,16 @@ module _ (s : List ℕ) (n : ℕ) (long : longest < n) (more : n ≤ length s) w
       let rows : byteAt cut 1 ≡ byteAt s 1 = byte-same 1 (omega arith) in
       let columns : byteAt cut 2 ≡ byteAt s 2 = byte-same 2 (omega arith) in
       let sizes : sizeOk (byteAt cut 1) (byteAt cut 2) ≡ sizeOk (byteAt s 1) (byteAt s 2) = cc in
+      let first : byteAt cut 0 ≡ byteAt s 0 = byte-same 0 (omega arith) in
       reaches-same 1 (omega arith)
-      (or-else-same 41 0 (eqb (byteAt cut 0) 4) (eqb (byteAt s 0) 4) (ap (λ (b : ℕ). eqb b 4) (byte-same 0 (omega arith)))
-      (λ four. reaches-same 5 (omega arith)
+      (or-else-same 41 0 (eqb (byteAt cut 0) 4 || eqb (byteAt cut 0) 5) (eqb (byteAt s 0) 4 || eqb (byteAt s 0) 5) (ap (λ (b : ℕ). eqb b 4 || eqb b 5) first)
+      (λ count. reaches-both (mineCountAt cut) (mineCountAt s) (omega (arith, first, count-bounds (byteAt s 0) count .1)) (omega (arith, count-bounds (byteAt s 0) count .1))
       (or-else-same 41 4 (leb (byteAt cut 4) 1) (leb (byteAt s 4) 1) (ap (λ (b : ℕ). leb b 1) (byte-same 4 (omega arith)))
       (λ _. or-else-same 20 1 (sizeOk (byteAt cut 1) (byteAt cut 2)) (sizeOk (byteAt s 1) (byteAt s 2)) sizes
       (λ size. or-else-same 25 3 (modeOk (byteAt cut 3)) (modeOk (byteAt s 3)) (ap modeOk (byte-same 3 (omega arith)))
-      (λ _. ap₂ (minesSection cut) (ap (λ (b : ℕ). 1 + b) (byte-same 0 (omega arith))) settings-same
-      ∙ section-same (mineCountAt s) (settingsAt s) (omega (arith, eqb-true (byteAt s 0) 4 four)) (size-limits (byteAt s 1) (byteAt s 2) size .cells)))))))
+      (λ _. or-else-same 45 5 (rulesOk (rulesAt cut)) (rulesOk (rulesAt s)) (ap rulesOk rules-same)
+      (λ _. ap₂ (minesSection cut) (ap (λ (b : ℕ). 1 + b) first) settings-same
+      ∙ section-same (mineCountAt s) (settingsAt s) (omega (arith, count-bounds (byteAt s 0) count .1)) (size-limits (byteAt s 1) (byteAt s 2) size .cells))))))))
 
   -- where the sections end before the cut, bytes are left over on both sides
   end-same : (end : ℕ) (b : Book) → (b .number ≡ 0 → end < n) → bookEnds cut end b ≡ bookEnds s end b

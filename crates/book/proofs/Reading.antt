@@ -1,21 +1,24 @@
 -- What the reader's functions need of the format: parts, and the mines section, the settings and the end by cases.
-use mathlib.Core.Path.{_≡_, _∙_, sym, ap, refl}
-use mathlib.Core.Bool.{true, false}
+use mathlib.Core.Path.{_≡_, _∙_, sym, ap, ap₂, refl}
+use mathlib.Core.Bool.{Bool, true, false, _||_}
 use mathlib.Core.List.{List, []}
 use Prim.Native.Nat.{ℕ, zero, suc, _+_, _-_, _*_, _<_, _≤_}
 use native.Mathlib.Numerals.{add-one}
 use native.Mathlib.Omega.{arith}
-use borrow.Author.Tests.{lt-ltb, le-ltb, le-leb, lt-leb, eq-eqb, ne-eqb}
-use lib.Dec.{leb}
+use native.Mathlib.Decide.{ℕ-discrete}
+use borrow.Author.Tests.{lt-ltb, le-ltb, le-leb, lt-leb, eq-eqb, ne-eqb, eqb-true}
+use lib.Dec.{leb, eqb}
 use lib.ListN.{length, take, drop, getD}
 use lib.Seq.{getD-drop}
 use Rattle.rules.specs.declared.Settings.{Settings}
 use Rattle.rules.specs.declared.Book.{Book}
 use Rattle.rules.specs.Grid.{sizeOk, cellOf}
 use Rattle.rules.specs.Board.{mineOk, mineCell, rises}
+use Rattle.rules.specs.Mouse.{rulesOk}
 use Rattle.rules.specs.Calls.{modeOk}
-use Rattle.rules.specs.Book.{refusedBook, byteAt, wordAt, minesFrom, minesSection, eventsFrom, settingsSection, mineCountAt, bookEnds, partOf}
+use Rattle.rules.specs.Book.{refusedBook, byteAt, wordAt, rulesAt, settingsAt, minesFrom, minesSection, eventsFrom, settingsSection, mineCountAt, bookEnds, partOf}
 use Rattle.book.specs.Parts.{mineFits}
+use Rattle.book.specs.Laid.{Counted}
 
 -- ---- parts -----------------------------------------------------------------------------------------------------------------------------
 
@@ -176,34 +179,79 @@ module _ (s : List ℕ) (at : ℕ) (g : Settings) (mines place next n : ℕ) (no
               ∙ ap (λ (i : ℕ). minesFrom s (g .rows) (g .columns) (at + 2) i (mines - (n + 1)) rest) (sym (add-one n));
         }
 
--- ---- the settings section, once its bytes are there ------------------------------------------------------------------------------------
+-- ---- the settings section -----------------------------------------------------------------------------------------------------------------
 
-module _ (s : List ℕ) (rest : Book) (four : byteAt s 0 ≡ 4) (five : 5 ≤ length s) where
+-- the count is 4 or 5
+pub count-bounds : (b : ℕ) → (eqb b 4 || eqb b 5) ≡ true → (4 ≤ b) × (b ≤ 5)
+count-bounds b e = go (eqb b 4) refl e
+  where
+    go : (t : Bool) → eqb b 4 ≡ t → (t || eqb b 5) ≡ true → (4 ≤ b) × (b ≤ 5)
+    go true d u = let four = eqb-true b 4 d in (omega arith, omega arith)
+    go false d u = let five = eqb-true b 5 u in (omega arith, omega arith)
+
+pub bounds-count : (b : ℕ) → 4 ≤ b → b ≤ 5 → (eqb b 4 || eqb b 5) ≡ true
+bounds-count b l m = go (ℕ-discrete b 4)
+  where
+    go : Dec (b ≡ 4) → (eqb b 4 || eqb b 5) ≡ true
+    go (yes q) = simp (eq-eqb b 4 q)
+    go (no q) = simp (ne-eqb b 4 q, eq-eqb b 5 (omega arith))
+
+pub count-wrong : (s : List ℕ) (rest : Book) → 1 ≤ length s → (eqb (byteAt s 0) 4 || eqb (byteAt s 0) 5) ≡ false
+    → settingsSection s rest ≡ refusedBook 41 0
+unfolding settingsSection
+count-wrong s rest some wrong = simp (le-leb _ _ some, wrong)
+
+-- the reader has found the count w
+module _ (s : List ℕ) (w : ℕ) (right : (eqb (byteAt s 0) 4 || eqb (byteAt s 0) 5) ≡ true) (read : w ≡ byteAt s 0) where
+  pub settings-short : (rest : Book) → 1 ≤ length s → length s < 1 + w → settingsSection s rest ≡ refusedBook 40 (length s)
+  unfolding settingsSection
+  settings-short rest some short =
+      let short′ : length s < mineCountAt s = omega arith in
+      simp (le-leb _ _ some, right, lt-leb _ _ short′)
+
+  pub settings-there : 1 + w ≤ length s → Counted s × (1 + w ≡ mineCountAt s)
+  settings-there there =
+      let b = count-bounds (byteAt s 0) right in
+      (record { least = b .0; most = b .1; there = omega arith }, omega arith)
+
+-- once its bytes are there
+module _ (s : List ℕ) (rest : Book) (c : Counted s) where
   some : 1 ≤ length s
-  some = omega arith
+  some = omega (arith, c .there)
+
+  count : (eqb (byteAt s 0) 4 || eqb (byteAt s 0) 5) ≡ true
+  count = bounds-count (byteAt s 0) (c .least) (c .most)
 
   pub question-wrong : leb (byteAt s 4) 1 ≡ false → settingsSection s rest ≡ refusedBook 41 4
   unfolding settingsSection
-  question-wrong question = simp (le-leb _ _ some, eq-eqb _ _ four, le-leb _ _ five, question)
+  question-wrong question = simp (le-leb _ _ some, count, le-leb _ _ (c .there), question)
 
-  pub size-wrong : leb (byteAt s 4) 1 ≡ true → sizeOk (byteAt s 1) (byteAt s 2) ≡ false → settingsSection s rest ≡ refusedBook 20 1
-  unfolding settingsSection
-  size-wrong question size = simp (le-leb _ _ some, eq-eqb _ _ four, le-leb _ _ five, question, size)
+  module _ (question : leb (byteAt s 4) 1 ≡ true) where
+    pub size-wrong : sizeOk (byteAt s 1) (byteAt s 2) ≡ false → settingsSection s rest ≡ refusedBook 20 1
+    unfolding settingsSection
+    size-wrong size = simp (le-leb _ _ some, count, le-leb _ _ (c .there), question, size)
 
-  pub mode-wrong : leb (byteAt s 4) 1 ≡ true → sizeOk (byteAt s 1) (byteAt s 2) ≡ true → modeOk (byteAt s 3) ≡ false
-      → settingsSection s rest ≡ refusedBook 25 3
-  unfolding settingsSection
-  mode-wrong question size mode = simp (le-leb _ _ some, eq-eqb _ _ four, le-leb _ _ five, question, size, mode)
+    module _ (size : sizeOk (byteAt s 1) (byteAt s 2) ≡ true) where
+      pub mode-wrong : modeOk (byteAt s 3) ≡ false → settingsSection s rest ≡ refusedBook 25 3
+      unfolding settingsSection
+      mode-wrong mode = simp (le-leb _ _ some, count, le-leb _ _ (c .there), question, size, mode)
 
-  -- the rest is left to read
-  pub settings-right : leb (byteAt s 4) 1 ≡ true → sizeOk (byteAt s 1) (byteAt s 2) ≡ true → modeOk (byteAt s 3) ≡ true
-      → settingsSection s rest ≡ rest
-  unfolding settingsSection
-  settings-right question size mode = simp (le-leb _ _ some, eq-eqb _ _ four, le-leb _ _ five, question, size, mode)
+      module _ (mode : modeOk (byteAt s 3) ≡ true) where
+        pub rules-wrong : rulesOk (rulesAt s) ≡ false → settingsSection s rest ≡ refusedBook 45 5
+        unfolding settingsSection
+        rules-wrong rules = simp (le-leb _ _ some, count, le-leb _ _ (c .there), question, size, mode, rules)
 
--- the mine count stands after four bytes of settings
-pub mines-after : (s : List ℕ) (g : Settings) {b : Book} → byteAt s 0 ≡ 4 → b ≡ minesSection s 5 g → b ≡ minesSection s (mineCountAt s) g
-mines-after s g four e = e ∙ ap (λ (k : ℕ). minesSection s (1 + k) g) (sym four)
+        -- the rest is left to read
+        pub settings-right : rulesOk (rulesAt s) ≡ true → settingsSection s rest ≡ rest
+        unfolding settingsSection
+        settings-right rules = simp (le-leb _ _ some, count, le-leb _ _ (c .there), question, size, mode, rules)
+
+-- the settings as they are read, and the place of the mine count
+pub mines-after : (s : List ℕ) (at rules : ℕ) {b : Book} → at ≡ mineCountAt s → rules ≡ rulesAt s
+    → b ≡ minesSection s at (record { rows = byteAt s 1; columns = byteAt s 2; mode = byteAt s 3; question = eqb (byteAt s 4) 1; rules = rules })
+    → b ≡ minesSection s (mineCountAt s) (settingsAt s)
+mines-after s at rules place ruled e =
+    e ∙ ap₂ (λ (k r : ℕ). minesSection s k (record { rows = byteAt s 1; columns = byteAt s 2; mode = byteAt s 3; question = eqb (byteAt s 4) 1; rules = r })) place ruled
 
 -- ---- the end ---------------------------------------------------------------------------------------------------------------------------
 

@@ -1,21 +1,24 @@
 -- A written book reads back to itself, and an accepted book is the written form of what is read in it.
 use mathlib.Core.Path.{_≡_, _∙_, sym, ap, ap₂, refl, subst, subst⁻¹}
 use mathlib.Core.Bool.{Bool, true, false}
-use mathlib.Core.List.{List, _∷_, _++_, append-assoc}
+use mathlib.Core.List.{List, [], _∷_, _++_, append-assoc}
 use Prim.Native.Nat.{ℕ, zero, suc, _+_, _*_, _/_, _%_, _<_, _≤_}
 use native.Mathlib.Omega.{arith}
+use native.Mathlib.Decide.{ℕ-discrete}
+use borrow.Author.Tests.{eqb-true, eq-eqb, ne-eqb}
 use lib.Dec.{eqb}
 use lib.ListN.{length, getD, take, drop, length-append, length-drop, take-append-drop, List·getD-append}
 use lib.Seq.{getD-take, getD-at, getD-append-add, take-at, drop-append-add, drop-drop, drop-cons, take-all}
 use Rattle.rules.specs.declared.Settings.{Settings}
 use Rattle.rules.specs.declared.Book.{Book}
-use Rattle.rules.specs.Words.{bit, every}
+use Rattle.rules.specs.Words.{pick, bit, every}
 use Rattle.rules.specs.Grid.{sizeOk}
 use Rattle.rules.specs.Board.{minesIn, mineCell, rises, mineOk}
+use Rattle.rules.specs.Mouse.{rulesOk}
 use Rattle.rules.specs.Calls.{modeOk}
-use Rattle.rules.specs.Book.{byteAt, wordAt, settingsAt, mineCountAt, bookOf, minesOf, eventsOf}
-use Rattle.book.specs.Laid.{SettingsLaid, LaidFrom, Laid, eventCountAt, endAt}
-use Rattle.book.specs.Written.{word, settingsBytes, eventsIn, sectionsBytes, written, Writable, Bytes}
+use Rattle.rules.specs.Book.{byteAt, wordAt, rulesAt, settingsAt, mineCountAt, bookOf, minesOf, eventsOf}
+use Rattle.book.specs.Laid.{SettingsLaid, LaidFrom, Laid, readFrom, eventCountAt, endAt}
+use Rattle.book.specs.Written.{word, Form, old, ruled, formOf, settingsCount, saysRules, settingsBytes, eventsIn, sectionsBytes, written, Writable, Bytes}
 use Rattle.cells.proofs.Words.{every-same}
 use Rattle.book.proofs.Accepting.{accepted-laid, laid-read, part-length}
 
@@ -83,7 +86,7 @@ word-there h n rest =
 
 -- ---- written, then read: mines and events after bytes of any length --------------------------------------------------------------------
 
-module _ (h : List ℕ) (g : Settings) (ms es : List ℕ) (w : Writable g ms es) where
+module _ (h : List ℕ) (f : Form) (g : Settings) (ms es : List ℕ) (w : Writable f g ms es) where
   two : 2 * minesIn ms ≡ length ms
   two = omega (arith, w .pairs)
 
@@ -145,65 +148,119 @@ module _ (h : List ℕ) (g : Settings) (ms es : List ℕ) (w : Writable g ms es)
         there = omega (arith, sections-ends);
       }
 
--- an accepted book from its settings, its count of mines, and the place and the count of its events
-abbrev told : Settings → ℕ → ℕ → ℕ → Book
-told g n at k = record { number = 0; place = 0; settings = g; «mines_at» = 7; mines = n; «events_at» = at; events = k }
+-- an accepted book from its settings, and the places and the counts of its mines and its events
+abbrev told : Settings → ℕ → ℕ → ℕ → ℕ → Book
+told g from n at k = record { number = 0; place = 0; settings = g; «mines_at» = from; mines = n; «events_at» = at; events = k }
 
-told-same : {g g′ : Settings} {n n′ at at′ k k′ : ℕ} → g ≡ g′ → n ≡ n′ → at ≡ at′ → k ≡ k′ → told g n at k ≡ told g′ n′ at′ k′
-told-same {g} {g′} {n} {n′} {at} {at′} {k} {k′} eg en ea ek =
-    ap (λ (x : Settings). told x n at k) eg ∙ ap (λ (x : ℕ). told g′ x at k) en
-    ∙ ap (λ (x : ℕ). told g′ n′ x k) ea ∙ ap (λ (x : ℕ). told g′ n′ at′ x) ek
+told-same : (g : Settings) {from from′ n n′ at at′ k k′ : ℕ} → from ≡ from′ → n ≡ n′ → at ≡ at′ → k ≡ k′ → told g from n at k ≡ told g from′ n′ at′ k′
+told-same g {from} {from′} {n} {n′} {at} {at′} {k} {k′} ef en ea ek =
+    ap (λ (x : ℕ). told g x n at k) ef ∙ ap (λ (x : ℕ). told g from′ x at k) en
+    ∙ ap (λ (x : ℕ). told g from′ n′ x k) ea ∙ ap (λ (x : ℕ). told g from′ n′ at′ x) ek
+
+-- ---- the settings of either form -------------------------------------------------------------------------------------------------------
+
+settings-length : (f : Form) (g : Settings) → length (settingsBytes f g) ≡ 1 + settingsCount f
+settings-length old g = refl
+settings-length ruled g = refl
+
+-- the mine count stands behind them
+count-place : (f : Form) (g : Settings) (rest : List ℕ) → mineCountAt (settingsBytes f g ++ rest) ≡ length (settingsBytes f g)
+count-place old g rest = refl
+count-place ruled g rest = refl
+
+form-back : (f : Form) (g : Settings) (rest : List ℕ) → formOf (settingsBytes f g ++ rest) ≡ f
+form-back old g rest = refl
+form-back ruled g rest = refl
+
+settings-back : (f : Form) (g : Settings) (rest : List ℕ) → saysRules f (g .rules) ≡ true → settingsAt (settingsBytes f g ++ rest) ≡ g
+settings-back old g rest e =
+    ap₂ (λ (q : Bool) (r : ℕ). record { rows = g .rows; columns = g .columns; mode = g .mode; question = q; rules = r })
+    (bit-back (g .question)) (sym (eqb-true (g .rules) 1 e))
+settings-back ruled g rest e =
+    ap (λ (q : Bool). record { rows = g .rows; columns = g .columns; mode = g .mode; question = q; rules = g .rules }) (bit-back (g .question))
+
+settings-laid : (f : Form) (g : Settings) (rest : List ℕ) → sizeOk (g .rows) (g .columns) ≡ true → modeOk (g .mode) ≡ true
+    → saysRules f (g .rules) ≡ true → SettingsLaid (settingsBytes f g ++ rest)
+unfolding rulesOk
+settings-laid old g rest size mode rules = record {
+  counted = record { least = omega arith; most = omega arith; there = omega arith };
+  question = bit-small (g .question);
+  size = size;
+  mode = mode;
+  rules = refl;
+}
+settings-laid ruled g rest size mode rules = record {
+  counted = record { least = omega arith; most = omega arith; there = omega arith };
+  question = bit-small (g .question);
+  size = size;
+  mode = mode;
+  rules = rules;
+}
 
 -- ---- a whole book ----------------------------------------------------------------------------------------------------------------------
 
-module _ (g : Settings) (ms es : List ℕ) (w : Writable g ms es) where
-  written-settings : settingsAt (written g ms es) ≡ g
+module _ (f : Form) (g : Settings) (ms es : List ℕ) (w : Writable f g ms es) where
+  written-settings : settingsAt (written f g ms es) ≡ g
   unfolding written
-  written-settings = ap (λ (q : Bool). record { rows = g .rows; columns = g .columns; mode = g .mode; question = q }) (bit-back (g .question))
+  written-settings = settings-back f g (sectionsBytes ms es) (w .rules)
+
+  written-place : mineCountAt (written f g ms es) ≡ length (settingsBytes f g)
+  unfolding written
+  written-place = count-place f g (sectionsBytes ms es)
 
   -- what is written is laid out as a book
-  pub written-laid : Laid (written g ms es)
+  pub written-laid : Laid (written f g ms es)
   unfolding written
   written-laid =
       record {
-        settings = record {
-          four = refl;
-          five = omega arith;
-          question = bit-small (g .question);
-          size = w .size;
-          mode = w .mode;
-        };
-        sections = subst⁻¹ (LaidFrom (written g ms es) (mineCountAt (written g ms es))) written-settings (sections-written (settingsBytes g) g ms es w);
-        ends = sections-ends (settingsBytes g) g ms es w;
+        settings = settings-laid f g (sectionsBytes ms es) (w .size) (w .mode) (w .rules);
+        sections =
+            subst⁻¹ (LaidFrom (written f g ms es) (mineCountAt (written f g ms es))) written-settings
+            (subst⁻¹ (λ (k : ℕ). LaidFrom (written f g ms es) k g) written-place (sections-written (settingsBytes f g) f g ms es w));
+        ends = sections-ends (settingsBytes f g) f g ms es w ∙ ap (endAt (written f g ms es)) (sym written-place);
       }
 
   -- it reads back: the settings, and where the mines and the events stand
   pub written-read :
-      bookOf (written g ms es)
+      bookOf (written f g ms es)
       ≡ record {
         number = 0;
         place = 0;
         settings = g;
-        «mines_at» = 7;
+        «mines_at» = 3 + settingsCount f;
         mines = minesIn ms;
-        «events_at» = 9 + length ms;
+        «events_at» = 5 + settingsCount f + length ms;
         events = eventsIn es;
       }
   unfolding written
   written-read =
-      let at : eventCountAt (written g ms es) (mineCountAt (written g ms es)) + 2 ≡ 9 + length ms = omega (arith, events-place (settingsBytes g) g ms es w) in
-      laid-read (written g ms es) written-laid
-      ∙ told-same written-settings (mine-count (settingsBytes g) g ms es w) at (event-count (settingsBytes g) g ms es w)
+      let long = settings-length f g in
+      let from : length (settingsBytes f g) + 2 ≡ 3 + settingsCount f = omega arith in
+      let at : eventCountAt (written f g ms es) (length (settingsBytes f g)) + 2 ≡ 5 + settingsCount f + length ms =
+      omega (arith, events-place (settingsBytes f g) f g ms es w) in
+      laid-read (written f g ms es) written-laid
+      ∙ ap₂ (readFrom (written f g ms es)) written-place written-settings
+      ∙ told-same g from (mine-count (settingsBytes f g) f g ms es w) at (event-count (settingsBytes f g) f g ms es w)
 
-  pub written-mines : minesOf (written g ms es) (bookOf (written g ms es)) ≡ ms
+  pub written-form : formOf (written f g ms es) ≡ f
+  unfolding written
+  written-form = form-back f g (sectionsBytes ms es)
+
+  pub written-mines : minesOf (written f g ms es) (bookOf (written f g ms es)) ≡ ms
   unfolding minesOf written
   written-mines =
-      ap (λ (b : Book). take (2 * b .mines) (drop (b .«mines_at») (written g ms es))) written-read ∙ mines-there (settingsBytes g) g ms es w
+      let long = settings-length f g in
+      let from : 3 + settingsCount f ≡ length (settingsBytes f g) + 2 = omega arith in
+      ap (λ (b : Book). take (2 * b .mines) (drop (b .«mines_at») (written f g ms es))) written-read
+      ∙ ap (λ (k : ℕ). take (2 * minesIn ms) (drop k (written f g ms es))) from ∙ mines-there (settingsBytes f g) f g ms es w
 
-  pub written-events : eventsOf (written g ms es) (bookOf (written g ms es)) ≡ es
+  pub written-events : eventsOf (written f g ms es) (bookOf (written f g ms es)) ≡ es
   unfolding eventsOf written
   written-events =
-      ap (λ (b : Book). take (3 * b .events) (drop (b .«events_at») (written g ms es))) written-read ∙ events-there (settingsBytes g) g ms es w
+      let long = settings-length f g in
+      let at : 5 + settingsCount f + length ms ≡ length (settingsBytes f g) + 4 + length ms = omega arith in
+      ap (λ (b : Book). take (3 * b .events) (drop (b .«events_at») (written f g ms es))) written-read
+      ∙ ap (λ (k : ℕ). take (3 * eventsIn es) (drop k (written f g ms es))) at ∙ events-there (settingsBytes f g) f g ms es w
 
 -- ---- read, then written: mines and events from a place on ------------------------------------------------------------------------------
 
@@ -234,11 +291,12 @@ module _ (s : List ℕ) (at : ℕ) (g : Settings) (l : LaidFrom s at g) where
       mines-same (g .rows) (g .columns) mineList (drop (at + 2) s) (wordAt s at) (λ j h. getD-take (2 * wordAt s at) (drop (at + 2) s) j 0 h)
       ∙ l .rising
 
-  laid-writable : sizeOk (g .rows) (g .columns) ≡ true → modeOk (g .mode) ≡ true → Writable g mineList records
-  laid-writable size mode =
+  laid-writable : (f : Form) → sizeOk (g .rows) (g .columns) ≡ true → modeOk (g .mode) ≡ true → saysRules f (g .rules) ≡ true → Writable f g mineList records
+  laid-writable f size mode rules =
       record {
         size = size;
         mode = mode;
+        rules = rules;
         pairs = omega (arith, mineList-length);
         rising = subst (λ (n : ℕ). every (mineOk (g .rows) (g .columns) mineList) n ≡ true) (sym mines-back) still-rising;
         fewer = omega (arith, mines-back, l .fewer);
@@ -266,16 +324,46 @@ module _ (s : List ℕ) (at : ℕ) (g : Settings) (l : LaidFrom s at g) where
         ∙ ap (λ (n : ℕ). word n ++ (mineList ++ (word (wordAt s (eventCountAt s at)) ++ records))) (sym mines-back)
         ∙ ap (λ (k : ℕ). word (minesIn mineList) ++ (mineList ++ (word k ++ records))) (sym events-back)
 
+-- the first five bytes, then the rest
+five-split : (s : List ℕ) → 5 ≤ length s → s ≡ byteAt s 0 ∷ byteAt s 1 ∷ byteAt s 2 ∷ byteAt s 3 ∷ byteAt s 4 ∷ drop 5 s
+five-split s h =
+    drop-cons s 0 0 (omega arith) ∙ ap (λ (t : List ℕ). byteAt s 0 ∷ t) (drop-cons s 1 0 (omega arith))
+    ∙ ap (λ (t : List ℕ). byteAt s 0 ∷ byteAt s 1 ∷ t) (drop-cons s 2 0 (omega arith))
+    ∙ ap (λ (t : List ℕ). byteAt s 0 ∷ byteAt s 1 ∷ byteAt s 2 ∷ t) (drop-cons s 3 0 (omega arith))
+    ∙ ap (λ (t : List ℕ). byteAt s 0 ∷ byteAt s 1 ∷ byteAt s 2 ∷ byteAt s 3 ∷ t) (drop-cons s 4 0 (omega arith))
+
+-- the settings, with the question byte as its setting says it
+five-said : (s : List ℕ) (n : ℕ) → SettingsLaid s → byteAt s 0 ≡ n
+    → s ≡ n ∷ byteAt s 1 ∷ byteAt s 2 ∷ byteAt s 3 ∷ bit (settingsAt s .question) ∷ drop 5 s
+five-said s n l e =
+    five-split s (omega (arith, l .counted .least, l .counted .there))
+    ∙ ap₂ (λ (b q : ℕ). b ∷ byteAt s 1 ∷ byteAt s 2 ∷ byteAt s 3 ∷ q ∷ drop 5 s) e (sym (question-back (byteAt s 4) (l .question)))
+
 -- the settings, then what follows them
-settings-split : (s : List ℕ) → SettingsLaid s → s ≡ settingsBytes (settingsAt s) ++ drop (mineCountAt s) s
-settings-split s l =
-    drop-cons s 0 0 (omega (arith, l .five)) ∙ ap (λ (t : List ℕ). byteAt s 0 ∷ t) (drop-cons s 1 0 (omega (arith, l .five)))
-    ∙ ap (λ (t : List ℕ). byteAt s 0 ∷ byteAt s 1 ∷ t) (drop-cons s 2 0 (omega (arith, l .five)))
-    ∙ ap (λ (t : List ℕ). byteAt s 0 ∷ byteAt s 1 ∷ byteAt s 2 ∷ t) (drop-cons s 3 0 (omega (arith, l .five)))
-    ∙ ap (λ (t : List ℕ). byteAt s 0 ∷ byteAt s 1 ∷ byteAt s 2 ∷ byteAt s 3 ∷ t) (drop-cons s 4 0 (omega (arith, l .five)))
-    ∙ ap (λ (b : ℕ). b ∷ byteAt s 1 ∷ byteAt s 2 ∷ byteAt s 3 ∷ byteAt s 4 ∷ drop 5 s) (l .four)
-    ∙ ap (λ (b : ℕ). 4 ∷ byteAt s 1 ∷ byteAt s 2 ∷ byteAt s 3 ∷ b ∷ drop 5 s) (sym (question-back (byteAt s 4) (l .question)))
-    ∙ ap (λ (b : ℕ). settingsBytes (settingsAt s) ++ drop (1 + b) s) (sym (l .four))
+settings-split : (s : List ℕ) → SettingsLaid s → s ≡ settingsBytes (formOf s) (settingsAt s) ++ drop (mineCountAt s) s
+settings-split s l = go (ℕ-discrete (byteAt s 0) 5)
+  where
+    go : Dec (byteAt s 0 ≡ 5) → s ≡ settingsBytes (formOf s) (settingsAt s) ++ drop (mineCountAt s) s
+    go (yes q) =
+        let front : List ℕ = byteAt s 1 ∷ byteAt s 2 ∷ byteAt s 3 ∷ bit (settingsAt s .question) ∷ [] in
+        let rules : byteAt s 5 ≡ rulesAt s = sym (simp (eq-eqb _ _ q)) in
+        let form : ruled ≡ formOf s = sym (simp (eq-eqb _ _ q)) in
+        five-said s 5 l q
+        ∙ ap (λ (t : List ℕ). 5 ∷ (front ++ t)) (drop-cons s 5 0 (omega (arith, l .counted .there)))
+        ∙ ap (λ (r : ℕ). 5 ∷ (front ++ (r ∷ drop 6 s))) rules
+        ∙ ap₂ (λ (f : Form) (b : ℕ). settingsBytes f (settingsAt s) ++ drop (1 + b) s) form (sym q)
+    go (no q) =
+        let four : byteAt s 0 ≡ 4 = omega (arith, l .counted .least, l .counted .most) in
+        let form : old ≡ formOf s = sym (simp (ne-eqb _ _ q)) in
+        five-said s 4 l four ∙ ap₂ (λ (f : Form) (b : ℕ). settingsBytes f (settingsAt s) ++ drop (1 + b) s) form (sym four)
+
+-- a book's form can say its rules
+form-says : (s : List ℕ) → rulesOk (rulesAt s) ≡ true → saysRules (formOf s) (rulesAt s) ≡ true
+form-says s = go (eqb (byteAt s 0) 5)
+  where
+    go : (t : Bool) → rulesOk (pick t (byteAt s 5) 1) ≡ true → saysRules (pick t ruled old) (pick t (byteAt s 5) 1) ≡ true
+    go true e = e
+    go false e = refl
 
 -- ---- an accepted book ------------------------------------------------------------------------------------------------------------------
 
@@ -283,17 +371,18 @@ module _ (s : List ℕ) (e : bookOf s .number ≡ 0) where
   laid : Laid s
   laid = accepted-laid s e
 
-  pub accepted-writable : Writable (bookOf s .settings) (minesOf s (bookOf s)) (eventsOf s (bookOf s))
+  pub accepted-writable : Writable (formOf s) (bookOf s .settings) (minesOf s (bookOf s)) (eventsOf s (bookOf s))
   unfolding minesOf eventsOf mineList records
   accepted-writable =
-      subst (λ (b : Book). Writable (b .settings) (take (2 * b .mines) (drop (b .«mines_at») s)) (take (3 * b .events) (drop (b .«events_at») s)))
-      (sym (laid-read s laid)) (laid-writable s (mineCountAt s) (settingsAt s) (laid .sections) (laid .settings .size) (laid .settings .mode))
+      subst (λ (b : Book). Writable (formOf s) (b .settings) (take (2 * b .mines) (drop (b .«mines_at») s)) (take (3 * b .events) (drop (b .«events_at») s)))
+      (sym (laid-read s laid))
+      (laid-writable s (mineCountAt s) (settingsAt s) (laid .sections) (formOf s) (laid .settings .size) (laid .settings .mode) (form-says s (laid .settings .rules)))
 
-  pub accepted-written : Bytes s → s ≡ written (bookOf s .settings) (minesOf s (bookOf s)) (eventsOf s (bookOf s))
+  pub accepted-written : Bytes s → s ≡ written (formOf s) (bookOf s .settings) (minesOf s (bookOf s)) (eventsOf s (bookOf s))
   unfolding minesOf eventsOf mineList records written
   accepted-written bytes =
       subst
-      (λ (b : Book). s ≡ written (b .settings) (take (2 * b .mines) (drop (b .«mines_at») s)) (take (3 * b .events) (drop (b .«events_at») s)))
+      (λ (b : Book). s ≡ written (formOf s) (b .settings) (take (2 * b .mines) (drop (b .«mines_at») s)) (take (3 * b .events) (drop (b .«events_at») s)))
       (sym (laid-read s laid))
       (settings-split s (laid .settings)
-      ∙ ap (λ (t : List ℕ). settingsBytes (settingsAt s) ++ t) (sections-back s (mineCountAt s) (settingsAt s) (laid .sections) (laid .ends) bytes))
+      ∙ ap (λ (t : List ℕ). settingsBytes (formOf s) (settingsAt s) ++ t) (sections-back s (mineCountAt s) (settingsAt s) (laid .sections) (laid .ends) bytes))

@@ -9,16 +9,23 @@ use Rattle.rules.specs.declared.Book.{Book}
 use Rattle.rules.specs.Words.{every}
 use Rattle.rules.specs.Grid.{sizeOk}
 use Rattle.rules.specs.Board.{mineOk}
+use Rattle.rules.specs.Mouse.{rulesOk}
 use Rattle.rules.specs.Calls.{modeOk}
-use Rattle.rules.specs.Book.{byteAt, wordAt, settingsAt, mineCountAt, maxEvents}
+use Rattle.rules.specs.Book.{byteAt, wordAt, rulesAt, settingsAt, mineCountAt, maxEvents}
 
--- the bytes of the settings are there and right
+-- the count of the settings is 4 or 5, and as many bytes are there
+pub record Counted (s : List ℕ) : Type 0 where
+  pub least : 4 ≤ byteAt s 0
+  pub most : byteAt s 0 ≤ 5
+  pub there : mineCountAt s ≤ length s
+
+-- and they are right
 pub record SettingsLaid (s : List ℕ) : Type 0 where
-  pub four : byteAt s 0 ≡ 4
-  pub five : 5 ≤ length s
+  pub counted : Counted s
   pub question : byteAt s 4 ≤ 1
   pub size : sizeOk (byteAt s 1) (byteAt s 2) ≡ true
   pub mode : modeOk (byteAt s 3) ≡ true
+  pub rules : rulesOk (rulesAt s) ≡ true
 
 -- the mine count stands at `at`, the mines after it, then the event count, the events to the end
 abbrev pub eventCountAt : List ℕ → ℕ → ℕ

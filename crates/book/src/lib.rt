@@ -4,8 +4,9 @@ ghost use mathlib.Core.Path.{_≡_};
 ghost use Prim.Native.Nat.{_<_, _≤_, _+_, _*_};
 ghost use lib.ListN.{length};
 ghost use Rattle.rules.specs.Grid.{cellOf};
-ghost use Rattle.rules.specs.Book.{wordAt, refusedBook, eventsFrom, minesSection, sectionsOf, bookEnds, bookOf, partOf};
+ghost use Rattle.rules.specs.Book.{wordAt, refusedBook, rulesAt, mineCountAt, eventsFrom, minesSection, sectionsOf, bookEnds, bookOf, partOf};
 ghost use Rattle.book.specs.Parts.{mineFits};
+ghost use Rattle.book.specs.Laid.{Counted};
 use rules::Book;
 use rules::Settings;
 
@@ -13,7 +14,7 @@ use rules::Settings;
 pub const MOST: usize = 8192;
 
 // The bytes of the longest book: settings, at most 2,047 mines, events.
-pub const LONGEST: usize = 5 + (2 + 2 * 2047) + (2 + 3 * MOST);
+pub const LONGEST: usize = 6 + (2 + 2 * 2047) + (2 + 3 * MOST);
 
 // A two-byte count, low byte first.
 fn word_at(s: &[u8], at: usize) -> usize
@@ -31,6 +32,7 @@ fn refused(number: u16, place: usize) -> Book
         columns: 0,
         mode: 0,
         question: false,
+        rules: 0,
     };
     Book {
         number,
@@ -125,26 +127,31 @@ fn read_mines(s: &[u8], at: usize, settings: Settings) -> Book
     read_events(s, place, settings, from, mines)
 }
 
-// The three sections, up to the last event, or their first fault with the byte place.
-fn read_sections(s: &[u8]) -> Book
+// The rules number of settings whose bytes are there: 1 unless a fifth byte has it.
+fn rules_at(s: &[u8]) -> u8
+    requires { ⌜ Counted (now s) ⌝ }
+    ensures { λ r. ⌜ r ≡ rulesAt (now (s .entry)) ⌝ }
+{
+    if s[0] == 5 {
+        return s[5];
+    }
+    1
+}
+
+// The settings, whose bytes are there up to the mine count at `at`, and what follows them.
+fn read_settings(s: &[u8], at: usize) -> Book
+    requires { ⌜ Counted (now s) × (at ≡ mineCountAt (now s)) ⌝ }
     ensures { λ r. ⌜ r ≡ sectionsOf (now (s .entry)) ⌝ }
 {
-    if s.len() < 1 {
-        return refused(40, s.len());
-    }
-    if s[0] != 4 {
-        return refused(41, 0);
-    }
-    if s.len() < 5 {
-        return refused(40, s.len());
-    }
     let rows = s[1];
     let columns = s[2];
     let mode = s[3];
     let question = s[4];
+    let rules = rules_at(s);
     let question_right = question <= 1;
     let size_right = cells::size_ok(rows, columns);
     let mode_right = cells::mode_ok(mode);
+    let rules_right = cells::rules_ok(rules);
     if !question_right {
         return refused(41, 4);
     }
@@ -154,13 +161,35 @@ fn read_sections(s: &[u8]) -> Book
     if !mode_right {
         return refused(25, 3);
     }
+    if !rules_right {
+        return refused(45, 5);
+    }
     let settings = Settings {
         rows,
         columns,
         mode,
         question: question == 1,
+        rules,
     };
-    read_mines(s, 5, settings)
+    read_mines(s, at, settings)
+}
+
+// The three sections, up to the last event, or their first fault with the byte place.
+fn read_sections(s: &[u8]) -> Book
+    ensures { λ r. ⌜ r ≡ sectionsOf (now (s .entry)) ⌝ }
+{
+    if s.len() < 1 {
+        return refused(40, s.len());
+    }
+    let count = s[0];
+    if !((count == 4) | (count == 5)) {
+        return refused(41, 0);
+    }
+    let at = 1 + cells::wide(count);
+    if s.len() < at {
+        return refused(40, s.len());
+    }
+    read_settings(s, at)
 }
 
 // The book `b`, whose last section ends at `end`, unless bytes are left over.

@@ -98,7 +98,7 @@ fn set_up(
     answer(0, p, 0)
 }
 
-// Setup: 20 to 25.
+// Setup: 20 to 25, 45.
 pub fn setup(settings: Settings, mines: &[i8], shown: &mut [u8], bits: &mut [u8]) -> Answer
     ensures { λ r. ⌜ SetupIs settings (now (mines .entry)) (now (shown .entry)) (now (bits .entry)) r (now (shown .exit)) (now (bits .exit)) ⌝ }
 {

@@ -8,6 +8,7 @@ ghost use lib.ListN.{length, getD, drop, replicate};
 ghost use Rattle.rules.specs.Words.{bit};
 ghost use Rattle.rules.specs.Grid.{sizeOk, cellOf, ninth, cellBefore, around};
 ghost use Rattle.rules.specs.Board.{faceAt};
+ghost use Rattle.rules.specs.Mouse.{rulesOk};
 ghost use Rattle.rules.specs.Calls.{modeOk};
 ghost use Rattle.cells.specs.Ground.{Sized, Valued, Mined, isInner, ringAt, ring, faceIs, Saw, SeenAround};
 
@@ -332,4 +333,11 @@ pub fn mode_ok(mode: u8) -> bool
     ensures { λ r. ⌜ r ≡ modeOk mode ⌝ }
 {
     (mode <= 5) | ((11 <= mode) & (mode <= 16))
+}
+
+// The league's rules: 1 and 2.
+pub fn rules_ok(rules: u8) -> bool
+    ensures { λ r. ⌜ r ≡ rulesOk rules ⌝ }
+{
+    (rules == 1) | (rules == 2)
 }

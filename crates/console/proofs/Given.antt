@@ -127,8 +127,8 @@ module _ (B : List ℤ) (f : FlatPosition) (shown bits : List ℕ) where
       go n = by n (eqb n 0) refl
 
 -- setup is given no position: a refused one gives the fresh position of its settings
-pub setup-back : (rows columns mode question : ℕ) (B : List ℤ) (shown bits : List ℕ) → (setupRefusal (settingsOf rows columns mode question) B shown bits ≡ 0 → ⊥)
-    → setupFlat rows columns mode question B shown bits
-    ≡ leaves (refusesFlat B (flatOf (freshOf (settingsOf rows columns mode question))) (setupRefusal (settingsOf rows columns mode question) B shown bits)) (shown ∷ bits ∷ [])
+pub setup-back : (rows columns mode question rules : ℕ) (B : List ℤ) (shown bits : List ℕ) → (setupRefusal (settingsOf rows columns mode question rules) B shown bits ≡ 0 → ⊥)
+    → setupFlat rows columns mode question rules B shown bits
+    ≡ leaves (refusesFlat B (flatOf (freshOf (settingsOf rows columns mode question rules))) (setupRefusal (settingsOf rows columns mode question rules) B shown bits)) (shown ∷ bits ∷ [])
 unfolding setupFlat
-setup-back rows columns mode question B shown bits h = ap flatSetUp (setup-refused (settingsOf rows columns mode question) B shown bits h)
+setup-back rows columns mode question rules B shown bits h = ap flatSetUp (setup-refused (settingsOf rows columns mode question rules) B shown bits h)

@@ -167,11 +167,11 @@ module _ (B : List ℤ) (f : FlatPosition) (shown bits : List ℕ) (p : Position
 
 -- ---- the calls without one, and reset --------------------------------------------------------------------------------------------------
 
-pub setup-flat : (rows columns mode question : ℕ) (s : Settings) (B : List ℤ) (shown bits : List ℕ) (a : Answer) (r : FlatAnswer) (shown′ bits′ : List ℕ)
-    → s ≡ settingsOf rows columns mode question → setUp a shown′ bits′ ≡ setupOf s B shown bits → r ≡ flatAnswer a
-    → leaves r (shown′ ∷ bits′ ∷ []) ≡ setupFlat rows columns mode question B shown bits
+pub setup-flat : (rows columns mode question rules : ℕ) (s : Settings) (B : List ℤ) (shown bits : List ℕ) (a : Answer) (r : FlatAnswer) (shown′ bits′ : List ℕ)
+    → s ≡ settingsOf rows columns mode question rules → setUp a shown′ bits′ ≡ setupOf s B shown bits → r ≡ flatAnswer a
+    → leaves r (shown′ ∷ bits′ ∷ []) ≡ setupFlat rows columns mode question rules B shown bits
 unfolding setupFlat
-setup-flat rows columns mode question s B shown bits a r shown′ bits′ es h er =
+setup-flat rows columns mode question rules s B shown bits a r shown′ bits′ es h er =
     ap (λ (t : FlatAnswer). leaves t (shown′ ∷ bits′ ∷ [])) er ∙ ap flatSetUp (h ∙ ap (λ (g : Settings). setupOf g B shown bits) es)
 
 -- reset's two cases are those of its answer

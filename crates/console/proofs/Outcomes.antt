@@ -16,9 +16,9 @@ leaves-one : {A : Type 0} {o : Leaves A} {r q : A} {ls ms : List (List ℕ)} →
 leaves-one {A} h k = let e = one h k in (ap (λ (o : Leaves A). o .answer) e, ap (λ (o : Leaves A). o .lent) e)
 
 module _ (B : List ℤ) (shown bits : List ℕ) where
-  pub setup-one : (rows columns mode question : ℕ) (r q : FlatAnswer) (shown′ shown″ bits′ bits″ : List ℕ) → SetupIs rows columns mode question B shown bits r shown′ bits′
-      → SetupIs rows columns mode question B shown bits q shown″ bits″ → (r ≡ q) × ((shown′ ∷ bits′ ∷ []) ≡ (shown″ ∷ bits″ ∷ []))
-  setup-one rows columns mode question r q shown′ shown″ bits′ bits″ h k = leaves-one h k
+  pub setup-one : (rows columns mode question rules : ℕ) (r q : FlatAnswer) (shown′ shown″ bits′ bits″ : List ℕ) → SetupIs rows columns mode question rules B shown bits r shown′ bits′
+      → SetupIs rows columns mode question rules B shown bits q shown″ bits″ → (r ≡ q) × ((shown′ ∷ bits′ ∷ []) ≡ (shown″ ∷ bits″ ∷ []))
+  setup-one rows columns mode question rules r q shown′ shown″ bits′ bits″ h k = leaves-one h k
 
   module _ (f : FlatPosition) where
     pub reset-one : (r q : FlatAnswer) (shown′ shown″ bits′ bits″ : List ℕ) → ResetIs f B shown bits r shown′ bits′ → ResetIs f B shown bits q shown″ bits″

@@ -37,9 +37,9 @@ refusesFlat B f n = gives n (faultOf (f .rows) (f .columns) B n) f 0
 abbrev pub flatSetUp : SetUp → Leaves FlatAnswer
 flatSetUp o = leaves (flatAnswer (o .answer)) (o .shown ∷ o .bits ∷ [])
 
--- setup and reset test 20 to 25, and never answer 264: of the question byte they ask only whether it is 0
-unfoldable pub setupFlat : ℕ → ℕ → ℕ → ℕ → List ℤ → List ℕ → List ℕ → Leaves FlatAnswer
-setupFlat rows columns mode question B shown bits = flatSetUp (setupOf (settingsOf rows columns mode question) B shown bits)
+-- setup and reset test 20 to 25 and 45, and never answer 264: of the question byte they ask only whether it is 0
+unfoldable pub setupFlat : ℕ → ℕ → ℕ → ℕ → ℕ → List ℤ → List ℕ → List ℕ → Leaves FlatAnswer
+setupFlat rows columns mode question rules B shown bits = flatSetUp (setupOf (settingsOf rows columns mode question rules) B shown bits)
 
 -- a refusal gives the flat position back as it was given
 abbrev pub resetOr : FlatPosition → SetUp → Leaves FlatAnswer
@@ -100,8 +100,9 @@ flatTotalled o = leaves (flatValue (o .answer)) (o .work ∷ [])
 abbrev pub CheckBoardIs : ℕ → ℕ → List ℤ → FlatValue → Type 0
 CheckBoardIs rows columns B r = r ≡ flatValue (boardCheckOf rows columns B)
 
-abbrev pub SetupIs : ℕ → ℕ → ℕ → ℕ → List ℤ → List ℕ → List ℕ → FlatAnswer → List ℕ → List ℕ → Type 0
-SetupIs rows columns mode question B shown bits r shown′ bits′ = leaves r (shown′ ∷ bits′ ∷ []) ≡ setupFlat rows columns mode question B shown bits
+abbrev pub SetupIs : ℕ → ℕ → ℕ → ℕ → ℕ → List ℤ → List ℕ → List ℕ → FlatAnswer → List ℕ → List ℕ → Type 0
+SetupIs rows columns mode question rules B shown bits r shown′ bits′ =
+    leaves r (shown′ ∷ bits′ ∷ []) ≡ setupFlat rows columns mode question rules B shown bits
 
 abbrev pub ResetIs : FlatPosition → List ℤ → List ℕ → List ℕ → FlatAnswer → List ℕ → List ℕ → Type 0
 ResetIs f B shown bits r shown′ bits′ = leaves r (shown′ ∷ bits′ ∷ []) ≡ resetFlat B f shown bits

@@ -38,25 +38,26 @@ pub extern "C" fn lm_total_3bv(rows: u8, columns: u8, mines: &[i8], work: &mut [
 
 // ---- setup and reset -------------------------------------------------------------------------------------------------------------------
 
-// Setup: 20 to 25. Of the question byte it asks only whether it is 0.
+// Setup: 20 to 25, 45. Of the question byte it asks only whether it is 0.
 #[no_mangle]
 pub extern "C" fn lm_setup(
     rows: u8,
     columns: u8,
     mode: u8,
     question: u8,
+    rules: u8,
     mines: &[i8],
     shown: &mut [u8],
     bits: &mut [u8],
 ) -> FlatAnswer
-    ensures { λ r. ⌜ SetupIs rows columns mode question (now (mines .entry)) (now (shown .entry)) (now (bits .entry)) r (now (shown .exit)) (now (bits .exit)) ⌝ }
+    ensures { λ r. ⌜ SetupIs rows columns mode question rules (now (mines .entry)) (now (shown .entry)) (now (bits .entry)) r (now (shown .exit)) (now (bits .exit)) ⌝ }
 {
-    let s = flats::settings_of(rows, columns, mode, question);
+    let s = flats::settings_of(rows, columns, mode, question, rules);
     let a = board::setup(s, mines, shown, bits);
     flats::flat_answer(a)
 }
 
-// Reset is setup with the position's own settings, 20 to 25; it reads no other byte, but a refusal gives all of them back.
+// Reset is setup with the position's own settings, 20 to 25, 45; it reads no other byte, but a refusal gives all of them back.
 #[no_mangle]
 pub extern "C" fn lm_reset(
     f: FlatPosition,
@@ -175,7 +176,7 @@ pub extern "C" fn lm_step_flow(
 
 // ---- the book --------------------------------------------------------------------------------------------------------------------------
 
-// What a book says, or its first fault: 40 to 44, 20, 24, 25.
+// What a book says, or its first fault: 40 to 45, 20, 24, 25.
 #[no_mangle]
 pub extern "C" fn lm_read_book(s: &[u8]) -> FlatBook
     ensures { λ r. ⌜ ReadBookIs (now (s .entry)) r ⌝ }

@@ -1,9 +1,9 @@
 -- Flat and back: the bytes of a position mean that position, and a flat position whose bytes mean something is the bytes of what it means.
-use mathlib.Core.Path.{_≡_, refl, ap, sym}
+use mathlib.Core.Path.{_≡_, refl}
 use mathlib.Core.Bool.{Bool, true, false}
 use Prim.Native.Nat.{ℕ, zero, suc, _≤_}
 use native.Mathlib.Omega.{arith}
-use borrow.Author.Tests.{leb-true, eqb-true}
+use borrow.Author.Tests.{leb-true}
 use lib.Dec.{leb}
 use Rattle.rules.specs.declared.Position.{Position}
 use Rattle.rules.specs.declared.GameState.{GameState}
@@ -95,7 +95,6 @@ pub record Meant (f : FlatPosition) : Type 0 where
   pub game : f .game ≤ 4
   pub mouse : f .mouse ≤ 6
   pub middle : f .middle ≤ 1
-  pub spare : f .spare ≡ 0
 
 pub meant : (f : FlatPosition) → means f ≡ true → Meant f
 unfolding means
@@ -107,8 +106,7 @@ meant f e =
       question = leb-true _ _ (and-left (leb (f .question) 1) _ e);
       game = leb-true _ _ (and-left (leb (f .game) 4) _ e₂);
       mouse = leb-true _ _ (and-left (leb (f .mouse) 6) _ e₃);
-      middle = leb-true _ _ (and-left (leb (f .middle) 1) _ e₄);
-      spare = eqb-true _ _ (and-right (leb (f .middle) 1) _ e₄);
+      middle = leb-true _ _ e₄;
     }
 
 -- the bytes of a position mean that position ..
@@ -120,31 +118,8 @@ pub flat-means : (p : Position) → means (flatOf p) ≡ true
 unfolding means
 flat-means p = simp (on-small (p .settings .question), game-small (p .game), mouse-small (p .mouse), on-small (p .middle))
 
-abbrev withSpare : FlatPosition → ℕ → FlatPosition
-withSpare f n = record {
-  rows = f .rows;
-  columns = f .columns;
-  mode = f .mode;
-  question = f .question;
-  game = f .game;
-  mouse = f .mouse;
-  middle = f .middle;
-  spare = n;
-  preflags = f .preflags;
-  events = f .events;
-  left = f .left;
-  right = f .right;
-  doubles = f .doubles;
-  lce = f .lce;
-  dce = f .dce;
-  flag = f .flag;
-  rce = f .rce;
-  «solved_left» = f .«solved_left»;
-  «solved_chord» = f .«solved_chord»;
-}
-
 -- a flat position whose bytes mean something is the bytes of what it means
 pub flat-back : (f : FlatPosition) → means f ≡ true → flatOf (positionIn f) ≡ f
 flat-back f e =
     let m = meant f e in
-    simp (on-byte _ (m .question), game-byte _ (m .game), mouse-byte _ (m .mouse), on-byte _ (m .middle)) (ap (withSpare f) (sym (m .spare)))
+    simp (on-byte _ (m .question), game-byte _ (m .game), mouse-byte _ (m .mouse), on-byte _ (m .middle))

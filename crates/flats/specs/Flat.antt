@@ -20,19 +20,19 @@ use Rattle.flats.specs.declared.FlatBook.{FlatBook}
 abbrev pub isOn : ℕ → Bool
 isOn n = not (eqb n 0)
 
--- every state byte means something: question and middle 0 or 1, the game 0 to 4, the mouse 0 to 6, the spare byte 0
+-- every state byte means something: question and middle 0 or 1, the game 0 to 4, the mouse 0 to 6
 unfoldable pub means : FlatPosition → Bool
-means f = leb (f .question) 1 && (leb (f .game) 4 && (leb (f .mouse) 6 && (leb (f .middle) 1 && eqb (f .spare) 0)))
+means f = leb (f .question) 1 && (leb (f .game) 4 && (leb (f .mouse) 6 && leb (f .middle) 1))
 
 -- for a position with a byte that means nothing: the refusal n of what the bytes are read as, or 264 where that is 0
 abbrev pub unclear : ℕ → ℕ
 unclear n = pick (eqb n 0) 264 n
 
-abbrev pub settingsOf : ℕ → ℕ → ℕ → ℕ → Settings
-settingsOf rows columns mode question = record { rows = rows; columns = columns; mode = mode; question = isOn question }
+abbrev pub settingsOf : ℕ → ℕ → ℕ → ℕ → ℕ → Settings
+settingsOf rows columns mode question rules = record { rows = rows; columns = columns; mode = mode; question = isOn question; rules = rules }
 
 abbrev pub settingsIn : FlatPosition → Settings
-settingsIn f = settingsOf (f .rows) (f .columns) (f .mode) (f .question)
+settingsIn f = settingsOf (f .rows) (f .columns) (f .mode) (f .question) (f .rules)
 
 -- the position that a flat one stands for; a byte that means nothing is read as the last state, or as yes
 abbrev pub positionIn : FlatPosition → Position
@@ -57,7 +57,7 @@ flatOf p = record {
   game = gameNumber (p .game);
   mouse = mouseNumber (p .mouse);
   middle = bit (p .middle);
-  spare = 0;
+  rules = p .settings .rules;
   preflags = p .preflags;
   events = p .events;
   left = p .counts .left;
@@ -87,6 +87,7 @@ flatBook b = record {
   columns = b .settings .columns;
   mode = b .settings .mode;
   question = bit (b .settings .question);
+  rules = b .settings .rules;
   place = b .place;
   «mines_at» = b .«mines_at»;
   mines = b .mines;

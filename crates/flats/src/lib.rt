@@ -12,8 +12,7 @@ use rules::Secrets;
 use rules::Settings;
 use rules::Value;
 
-// The position, with its states as bytes: 52 bytes without padding, so that a refusal can give every one of them back. The spare byte is 0.
-// `double` is a word of C.
+// The position, with its states as bytes: 52 bytes without padding, so that a refusal can give every one of them back. `double` is a word of C.
 #[repr(C)]
 pub struct FlatPosition {
     pub rows: u8,
@@ -23,7 +22,7 @@ pub struct FlatPosition {
     pub game: u8,
     pub mouse: u8,
     pub middle: u8,
-    pub spare: u8,
+    pub rules: u8,
     pub preflags: u32,
     pub events: u32,
     pub left: u32,
@@ -59,11 +58,12 @@ pub struct FlatValue {
 // What a book says, or its first fault.
 #[repr(C)]
 pub struct FlatBook {
-    pub number: u32,
+    pub number: u16,
     pub rows: u8,
     pub columns: u8,
     pub mode: u8,
     pub question: u8,
+    pub rules: u8,
     pub place: usize,
     pub mines_at: usize,
     pub mines: usize,
@@ -92,17 +92,18 @@ pub fn wide(n: u16) -> u32
 pub fn means(f: FlatPosition) -> bool
     ensures { λ r. ⌜ r ≡ means f ⌝ }
 {
-    (f.question <= 1) & ((f.game <= 4) & ((f.mouse <= 6) & ((f.middle <= 1) & (f.spare == 0))))
+    (f.question <= 1) & ((f.game <= 4) & ((f.mouse <= 6) & (f.middle <= 1)))
 }
 
-pub fn settings_of(rows: u8, columns: u8, mode: u8, question: u8) -> Settings
-    ensures { λ r. ⌜ r ≡ settingsOf rows columns mode question ⌝ }
+pub fn settings_of(rows: u8, columns: u8, mode: u8, question: u8, rules: u8) -> Settings
+    ensures { λ r. ⌜ r ≡ settingsOf rows columns mode question rules ⌝ }
 {
     Settings {
         rows,
         columns,
         mode,
         question: question != 0,
+        rules,
     }
 }
 
@@ -110,7 +111,7 @@ pub fn settings_of(rows: u8, columns: u8, mode: u8, question: u8) -> Settings
 pub fn position_in(f: FlatPosition) -> Position
     ensures { λ r. ⌜ r ≡ positionIn f ⌝ }
 {
-    let settings = settings_of(f.rows, f.columns, f.mode, f.question);
+    let settings = settings_of(f.rows, f.columns, f.mode, f.question, f.rules);
     let game = rules::game_at(f.game);
     let mouse = rules::mouse_at(f.mouse);
     let counts = Counts {
@@ -151,7 +152,7 @@ fn flat(p: Position) -> FlatPosition
         game: rules::game_number(game),
         mouse: rules::mouse_number(mouse),
         middle: byte(p.middle),
-        spare: 0,
+        rules: p.settings.rules,
         preflags: p.preflags,
         events: p.events,
         left: p.counts.left,
@@ -205,11 +206,12 @@ pub fn flat_book(b: Book) -> FlatBook
     ensures { λ r. ⌜ r ≡ flatBook b ⌝ }
 {
     FlatBook {
-        number: wide(b.number),
+        number: b.number,
         rows: b.settings.rows,
         columns: b.settings.columns,
         mode: b.settings.mode,
         question: byte(b.settings.question),
+        rules: b.settings.rules,
         place: b.place,
         mines_at: b.mines_at,
         mines: b.mines,

@@ -86,7 +86,7 @@ module _ (B : List ℤ) (code : ℕ) (x : Pointer) (p : Position) (shown bits : 
   unfolding plainOf
   resolved-asks q work k l b i =
       rw (k, e)
-      (record { kept = middle-keeps (flipped code (p .middle)) (l .kept); few = l .few }, (b, event-inside (p .settings) (resolved code (mouse (desk p shown bits)) (p .middle)) x i))
+      (record { kept = middle-keeps (flipped code (p .middle)) (l .kept); few = l .few }, (b, event-inside (p .settings) (resolved (p .settings .rules) code (mouse (desk p shown bits)) (p .middle)) x i))
 
   module _ (n : ℕ) (r : n ≡ unless 31 (ltb (p .events) 65535) (eventRefusal (p .game) (h .event) (desk p shown bits))) where
     refusal-is : n ≡ refusalAt code x (desk p shown bits)

@@ -16,7 +16,7 @@ use Rattle.rules.specs.Printout.{gameLine, eventLines, endLines, bookBoard, boo
 use Rattle.cells.specs.Ground.{Mined}
 use Rattle.keep.specs.Kept.{LawfulAt, Follows}
 use Rattle.keep.proofs.Step.{plays-follow}
-use Rattle.book.specs.Written.{Writable}
+use Rattle.book.specs.Written.{formOf, Writable}
 use Rattle.book.proofs.Accepting.{events-part}
 use Rattle.book.proofs.Writing.{accepted-writable}
 use Rattle.game.specs.Core.{Blank}
@@ -60,9 +60,9 @@ module _ (s : List ℕ) (b : Book) (e : b ≡ bookOf s) (z : b .number ≡ 0) {p
     events-are : events ≡ eventsOf s b
     events-are = ee ∙ events-part s b e ∙ ap (eventsOf s) (sym e)
 
-    writable : Writable (b .settings) (minesOf s b) (eventsOf s b)
+    writable : Writable (formOf s) (b .settings) (minesOf s b) (eventsOf s b)
     writable =
-        subst (λ (x : Book). x .number ≡ 0 → Writable (x .settings) (minesOf s x) (eventsOf s x)) (sym e) (λ q. accepted-writable s q) z
+        subst (λ (x : Book). x .number ≡ 0 → Writable (formOf s) (x .settings) (minesOf s x) (eventsOf s x)) (sym e) (λ q. accepted-writable s q) z
 
     few : length events ≤ 24576
     few = let l = ap length events-are in let a = writable .whole in let f = writable .few in omega arith

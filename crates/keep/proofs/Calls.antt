@@ -1,5 +1,6 @@
 -- No call, accepted or refused, leads from a position that the position check accepts to one that it does not; and setup leads to one that it accepts.
-use mathlib.Core.Path.{_≡_, refl}
+-- No call changes the settings, so none the league's rules.
+use mathlib.Core.Path.{_≡_, refl, ap}
 use mathlib.Core.Bool.{Bool, true, false}
 use mathlib.Core.List.{List}
 use Prim.Native.Nat.{ℕ}
@@ -10,25 +11,26 @@ use lib.ListN.{getD}
 use Rattle.rules.specs.declared.Settings.{Settings}
 use Rattle.rules.specs.declared.Answer.{Answer}
 use Rattle.rules.specs.declared.GameState.the-variants.{Loss}
-use Rattle.rules.specs.Words.{pick}
+use Rattle.rules.specs.Words.{pick, unless}
 use Rattle.rules.specs.States.{isLoss, withGame}
 use Rattle.rules.specs.Board.{faceAt}
 use Rattle.rules.specs.Clicks.{Desk, desk, done, on}
+use Rattle.rules.specs.Mouse.{rulesOk}
 use Rattle.rules.specs.Step.{stepOn}
 use Rattle.rules.specs.Lawful.{cellLawful}
 use Rattle.rules.specs.Calls.{leftBy, setBy, Outcome, SetUp, boardsFit, freshDesk, setupBy, setupRefusal, resetOf, answers, refuses, setUp, positionCheck, lentRefusal, refused, refusedAt, accepted, openedIn, played, stepOf, plays, lastPlay, flowed, flowRefusal, flowOf, gameStateOf}
-use Rattle.cells.proofs.Words.{pick-both}
+use Rattle.cells.proofs.Words.{pick-both, unless-passed}
 use Rattle.keep.specs.Kept.{LawfulAt, Follows}
-use Rattle.keep.proofs.Lawful.{settings-accepted, accepted-ground, check-lawful, settings-check, check-passes}
+use Rattle.keep.proofs.Lawful.{settings-accepted, accepted-ground, check-lawful, lent-lawful, flow-lawful, settings-check, check-passes}
 use Rattle.keep.proofs.Fresh.{fresh-lawful}
 use Rattle.keep.proofs.Opened.{lawful-later}
-use Rattle.keep.proofs.Step.{step-check, plays-follow}
+use Rattle.keep.proofs.Step.{step-follows, step-check, plays-follow}
 
--- the fresh desk of settings that 20 to 25 did not refuse
+-- the fresh desk of settings that setup did not refuse
 pub setup-lawful : (s : Settings) (B : List ℤ) (shown bits : List ℕ) → setupRefusal s B shown bits ≡ 0 → LawfulAt B (freshDesk s)
 unfolding setupRefusal
 setup-lawful s B shown bits e =
-    let a = settings-accepted s (boardsFit s B shown bits) B 0 e in
+    let a = settings-accepted s (boardsFit s B shown bits) B (unless 45 (rulesOk (s .rules)) 0) e in
     let g = accepted-ground shown bits (a .0) (a .0 .fits) in
     fresh-lawful B s (g .mined) (g .numbers)
 
@@ -68,7 +70,9 @@ Accepts B d = positionCheck B d ≡ 0
 pub setup-keeps : (s : Settings) (B : List ℤ) (shown bits : List ℕ) → setupRefusal s B shown bits ≡ 0 → Accepts B (freshDesk s)
 unfolding setupRefusal
 setup-keeps s B shown bits e =
-    settings-check s (boardsFit s B shown bits) B 0 (freshDesk s) e refl (setup-lawful s B shown bits e)
+    let rest = unless 45 (rulesOk (s .rules)) 0 in
+    let ruled = unless-passed 44 (rulesOk (s .rules)) 0 (settings-accepted s (boardsFit s B shown bits) B rest e .2) .0 in
+    settings-check s (boardsFit s B shown bits) B rest (freshDesk s) e ruled refl (setup-lawful s B shown bits e)
 
 setup-by : (B : List ℤ) (d : Desk) (n : ℕ) → (n ≡ 0 → Accepts B (freshDesk (d .position .settings))) → Accepts B d
     → Accepts B (setBy (setupBy n B (d .position) (d .position .settings) (d .shown) (d .bits)))
@@ -116,3 +120,62 @@ game-state-keeps B event d e =
     (λ _. pick-both (λ (a : Answer). Accepts B (on d (a .position))) (leb event 1) (answers 0 (withGame (d .position) Loss) 0) (answers 33 (d .position) 0)
     (λ _. check-passes B d (on d (withGame (d .position) Loss)) e refl (lost-lawful B d (check-lawful B d e))) (λ _. e))
     (λ _. e)
+
+-- ---- the rules -------------------------------------------------------------------------------------------------------------------------
+
+-- an answer with the position's own settings
+abbrev Settled : Desk → Answer → Type 0
+Settled d a = a .position .settings ≡ d .position .settings
+
+settled-rules : (d : Desk) (a : Answer) → Settled d a → a .position .settings .rules ≡ d .position .settings .rules
+settled-rules d a e = ap (λ (s : Settings). s .rules) e
+
+-- reset
+reset-settled : (B : List ℤ) (d : Desk) → Settled d (resetOf B d .answer)
+unfolding resetOf setupBy
+reset-settled B d =
+    let f = freshDesk (d .position .settings) in
+    let n = setupRefusal (d .position .settings) B (d .shown) (d .bits) in
+    pick-both (λ (o : SetUp). Settled d (o .answer)) (eqb n 0) (setUp (answers 0 (f .position) 0) (f .shown) (f .bits)) (setUp (refuses B (d .position) n) (d .shown) (d .bits))
+    (λ _. refl) (λ _. refl)
+
+pub reset-rules : (B : List ℤ) (d : Desk) → resetOf B d .answer .position .settings .rules ≡ d .position .settings .rules
+reset-rules B d = settled-rules d (resetOf B d .answer) (reset-settled B d)
+
+-- step
+step-settled : (B : List ℤ) (code r c : ℕ) (d : Desk) (work : List ℕ) → Settled d (stepOf B code r c d work .answer)
+unfolding stepOf
+step-settled B code r c d work =
+    pick-both (λ (o : Outcome). Settled d (o .answer)) (eqb (lentRefusal B d work) 0) (played (d .shown) (stepOn B code r c d) work) (refusedAt B (lentRefusal B d work) d work)
+    (λ z. let f = step-follows B code r c d (lent-lawful B d work (eqb-true _ _ z)) in
+    pick-both (λ (o : Outcome). Settled d (o .answer)) (leb 20 (stepOn B code r c d .answer))
+    (refused (stepOn B code r c d .answer) (stepOn B code r c d .desk) work) (accepted (stepOn B code r c d .answer) (openedIn (d .shown) (stepOn B code r c d .desk .shown)) (stepOn B code r c d .desk) work)
+    (λ _. f .settings) (λ _. f .settings))
+    (λ _. refl)
+
+pub step-rules : (B : List ℤ) (code r c : ℕ) (d : Desk) (work : List ℕ) → stepOf B code r c d work .answer .position .settings .rules ≡ d .position .settings .rules
+step-rules B code r c d work = settled-rules d (stepOf B code r c d work .answer) (step-settled B code r c d work)
+
+-- step_flow
+flow-settled : (B : List ℤ) (events : List ℕ) (d : Desk) (work : List ℕ) → Settled d (flowOf B events d work .answer)
+unfolding flowOf
+flow-settled B events d work =
+    pick-both (λ (o : Outcome). Settled d (o .answer)) (eqb (flowRefusal B events d work) 0)
+    (flowed (plays B events d) (lastPlay (done 0 d) (plays B events d)) work) (refusedAt B (flowRefusal B events d work) d work)
+    (λ z. plays-follow B events d (done 0 d) (record { lawful = flow-lawful B events d work (eqb-true _ _ z); settings = refl; told = λ t. t }) .settings)
+    (λ _. refl)
+
+pub flow-rules : (B : List ℤ) (events : List ℕ) (d : Desk) (work : List ℕ) → flowOf B events d work .answer .position .settings .rules ≡ d .position .settings .rules
+flow-rules B events d work = settled-rules d (flowOf B events d work .answer) (flow-settled B events d work)
+
+-- step_game_state
+state-settled : (B : List ℤ) (event : ℕ) (d : Desk) → Settled d (gameStateOf B event d)
+unfolding gameStateOf
+state-settled B event d =
+    pick-both (Settled d) (eqb (positionCheck B d) 0)
+    (pick (leb event 1) (answers 0 (withGame (d .position) Loss) 0) (answers 33 (d .position) 0)) (refuses B (d .position) (positionCheck B d))
+    (λ _. pick-both (Settled d) (leb event 1) (answers 0 (withGame (d .position) Loss) 0) (answers 33 (d .position) 0) (λ _. refl) (λ _. refl))
+    (λ _. refl)
+
+pub state-rules : (B : List ℤ) (event : ℕ) (d : Desk) → gameStateOf B event d .position .settings .rules ≡ d .position .settings .rules
+state-rules B event d = settled-rules d (gameStateOf B event d) (state-settled B event d)

@@ -1,4 +1,4 @@
--- `lawful` and `Kept` say the same, both ways; and what the board's and the position's tests gave when they refused nothing.
+-- `lawful` is `Kept` and the league's rules, both ways; and what the board's and the position's tests gave when they refused nothing.
 use mathlib.Core.Path.{_≡_, _∙_, sym, ap, refl, subst, subst⁻¹}
 use mathlib.Core.Bool.{Bool, true, false, not, _&&_, _||_, false≢true, true≢false}
 use mathlib.Core.List.{List}
@@ -19,6 +19,7 @@ use Rattle.rules.specs.Grid.{sizeOk}
 use Rattle.rules.specs.Board.{faceAt, mineAt, valuesOk, numbersOk, someSafe, boardRefusal}
 use Rattle.rules.specs.Lent.{bitAt}
 use Rattle.rules.specs.Clicks.{Desk, isWon}
+use Rattle.rules.specs.Mouse.{rulesOk}
 use Rattle.rules.specs.Lawful.{countShown, shows, isFlag, isOpenOrHit, cellLawful, shownLawful, bitsLawful, countsLawful, gameLawful, statesLawful, lawful, lawfulRefusal}
 use Rattle.rules.specs.Calls.{cellsIn, boardsFit, modeOk, settingsRefusal, positionRefusal, positionCheck, lentRefusal, flowRefusal, workFits}
 use Rattle.cells.proofs.Words.{and-left, and-right, and-both, every-at, every-all, unless-passed}
@@ -173,15 +174,23 @@ lawful-kept B d g e =
         };
         preflags = leb-true _ _ (and-left (leb (d .position .preflags) n) _ c₆);
         held =
-            λ h. leb-true _ _ (bit-mine (isNotFlag (d .position .mouse)) (leb 1 (d .position .counts .right)) (and-right (gameLawful (d .position .game) B d) _ t) h);
+            λ h. leb-true _ _ (bit-mine (isNotFlag (d .position .mouse)) (leb 1 (d .position .counts .right)) (and-left _ _ (and-right (gameLawful (d .position .game) B d) _ t)) h);
         phase = game-phase (d .position .game) B d (and-left (gameLawful (d .position .game) B d) _ t);
       };
       few = leb-true _ _ (and-left (leb n 65535) _ c₇);
     }
 
-pub kept-lawful : (B : List ℤ) (d : Desk) → LawfulAt B d → lawful B d ≡ true
+-- a lawful position has the league's rules
+pub lawful-rules : (B : List ℤ) (d : Desk) → lawful B d ≡ true → rulesOk (d .position .settings .rules) ≡ true
+unfolding lawful statesLawful
+lawful-rules B d e =
+    let counts = and-right (bitsLawful B d) _ (and-right (shownLawful B d) _ e) in
+    let states = and-right (gameLawful (d .position .game) B d) _ (and-right (countsLawful d) _ counts) in
+    and-right (not (isNotFlag (d .position .mouse)) || leb 1 (d .position .counts .right)) _ states
+
+pub kept-lawful : (B : List ℤ) (d : Desk) → LawfulAt B d → rulesOk (d .position .settings .rules) ≡ true → lawful B d ≡ true
 unfolding lawful shownLawful bitsLawful countsLawful statesLawful
-kept-lawful B d h =
+kept-lawful B d h ruled =
     let s = h .kept .sound in
     let b = s .bounded in
     and-both _ _
@@ -195,7 +204,7 @@ kept-lawful B d h =
     (and-both _ _ (le-leb _ _ (b .rce)) (and-both _ _ (le-leb _ _ (b .dce)) (and-both _ _ (le-leb _ _ (h .kept .preflags)) (and-both _ _ (le-leb _ _ (h .few))
     (and-both _ _ (le-leb _ _ (s .double)) (le-leb _ _ (s .solved)))))))))))
     (and-both _ _ (phase-game (d .position .game) B d (h .kept .phase))
-    (mine-bit (isNotFlag (d .position .mouse)) (leb 1 (d .position .counts .right)) (λ e. le-leb _ _ (h .kept .held e))))))
+    (and-both _ _ (mine-bit (isNotFlag (d .position .mouse)) (leb 1 (d .position .counts .right)) (λ e. le-leb _ _ (h .kept .held e))) ruled))))
 
 -- ---- the refusal of a position is 0 exactly if it is lawful ----------------------------------------------------------------------------
 
@@ -278,17 +287,20 @@ settings-pass : (s : Settings) (B : List ℤ) → boardRefusal (s .rows) (s .col
 unfolding settingsRefusal
 settings-pass s B e m = rw (eq-eqb _ _ e, m)
 
--- a lawful desk with settings that 20 to 25 did not refuse is accepted by the position check
-pub settings-check : (s : Settings) (fit : Bool) (B : List ℤ) (rest : ℕ) (e : Desk) → settingsRefusal s fit B rest ≡ 0 → e .position .settings ≡ s → LawfulAt B e
-    → positionCheck B e ≡ 0
+-- a lawful desk with settings that 20 to 25 did not refuse and the league's rules is accepted by the position check
+pub settings-check : (s : Settings) (fit : Bool) (B : List ℤ) (rest : ℕ) (e : Desk) → settingsRefusal s fit B rest ≡ 0 → rulesOk (s .rules) ≡ true
+    → e .position .settings ≡ s → LawfulAt B e → positionCheck B e ≡ 0
 unfolding positionCheck positionRefusal
-settings-check s fit B rest e ok es l =
+settings-check s fit B rest e ok ruled es l =
     let a = settings-accepted s fit B rest ok in
     let b = refusal-fits (s .rows) (s .columns) fit B (a .0 .fits) (settings-passed s fit B rest ok) in
-    rw (ground-fits (l .kept .sound .ground), lawful-passes B e (kept-lawful B e l)) (subst⁻¹ (λ (s : Settings). settingsRefusal s true B 0 ≡ 0) es (settings-pass s B b (a .1)))
+    let r = subst⁻¹ (λ (s : Settings). rulesOk (s .rules) ≡ true) es ruled in
+    rw (ground-fits (l .kept .sound .ground), lawful-passes B e (kept-lawful B e l r)) (subst⁻¹ (λ (s : Settings). settingsRefusal s true B 0 ≡ 0) es (settings-pass s B b (a .1)))
 
 -- so is one with the settings of a desk that it accepted
 pub check-passes : (B : List ℤ) (d e : Desk) → positionCheck B d ≡ 0 → e .position .settings ≡ d .position .settings → LawfulAt B e → positionCheck B e ≡ 0
 unfolding positionCheck positionRefusal
 check-passes B d e ok es l =
-    settings-check (d .position .settings) (boardsFit (d .position .settings) B (d .shown) (d .bits)) B (lawfulRefusal B d) e ok es l
+    let fit = boardsFit (d .position .settings) B (d .shown) (d .bits) in
+    let ruled = lawful-rules B d (passed-lawful B d (settings-accepted (d .position .settings) fit B (lawfulRefusal B d) ok .2)) in
+    settings-check (d .position .settings) fit B (lawfulRefusal B d) e ok ruled es l

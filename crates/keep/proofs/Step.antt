@@ -20,13 +20,13 @@ use Rattle.rules.specs.declared.GameState.the-variants.{Ready, Playing, Win, Lo
 use Rattle.rules.specs.Words.{pick, unless}
 use Rattle.rules.specs.States.{isLoss, withMiddle, withEvents}
 use Rattle.rules.specs.Clicks.{Desk, Play, desk, done, on}
-use Rattle.rules.specs.Mouse.{resolved, flipped}
+use Rattle.rules.specs.Mouse.{rulesOk, resolved, flipped}
 use Rattle.rules.specs.Step.{mouse, byGame, pointerOf, eventOf, plainOf, eventRefusal, refusalAt, counts, playAt, stepAt, stepBy, stepOn}
 use Rattle.rules.specs.Lawful.{countShown, shows, lawful}
 use Rattle.rules.specs.Calls.{plays, lastPlay, positionCheck}
 use Rattle.cells.proofs.Words.{and-left, and-right, pick-both, unless-passed}
 use Rattle.keep.specs.Kept.{Ground, Kept, Told, Live, LawfulAt, Follows, AllLawful, Inside, InsideOf}
-use Rattle.keep.proofs.Lawful.{lawful-kept, kept-lawful, check-lawful, check-passes}
+use Rattle.keep.proofs.Lawful.{lawful-kept, lawful-rules, kept-lawful, check-lawful, check-passes}
 use Rattle.keep.proofs.Moves.{later, middle-keeps, events-keeps}
 use Rattle.keep.proofs.States.{middle-live, event-live}
 
@@ -48,7 +48,7 @@ play-live n B s code x d i l =
     let o : Play = byGame (d .position .game) B (plainOf code x d) (on d (withMiddle (d .position) (flipped code (d .position .middle)))) in
     let r : Live (suc n) B s (o .desk) =
     event-live n B s (d .position .game) (plainOf code x d) (on d (withMiddle (d .position) (flipped code (d .position .middle)))) refl
-    (middle-live (flipped code (d .position .middle)) l) (event-inside s (resolved code (mouse d) (d .position .middle)) x i) in
+    (middle-live (flipped code (d .position .middle)) l) (event-inside s (resolved (d .position .settings .rules) code (mouse d) (d .position .middle)) x i) in
     record { kept = events-keeps (d .position .events + 1) (r .kept); settings = r .settings; told = r .told }
 
 -- Loss answers 0 to every code
@@ -131,7 +131,9 @@ unfolding stepOn
 step-follows B code r c d l = step-by B code (pointerOf (d .position .settings) r c) d (pointer-inside (d .position .settings) r c) l
 
 pub step-keeps : (B : List ℤ) (code r c : ℕ) (d : Desk) → Ground B (d .position .settings) (d .shown) (d .bits) → lawful B d ≡ true → lawful B (stepOn B code r c d .desk) ≡ true
-step-keeps B code r c d g e = kept-lawful B (stepOn B code r c d .desk) (step-follows B code r c d (lawful-kept B d g e) .lawful)
+step-keeps B code r c d g e =
+    let f = step-follows B code r c d (lawful-kept B d g e) in
+    kept-lawful B (stepOn B code r c d .desk) (f .lawful) (subst⁻¹ (λ (s : Settings). rulesOk (s .rules) ≡ true) (f .settings) (lawful-rules B d e))
 
 pub step-check : (B : List ℤ) (code r c : ℕ) (d : Desk) → positionCheck B d ≡ 0 → positionCheck B (stepOn B code r c d .desk) ≡ 0
 step-check B code r c d e =

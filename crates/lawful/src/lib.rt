@@ -210,7 +210,7 @@ fn game_lawful(g: GameState, p: Position, mines: &[i8], shown: &[u8], c: Census)
     }
 }
 
-// What the game state asks, and a NotFlag mouse state has right at least 1.
+// What the game state asks; a NotFlag mouse state has right at least 1; the rules are 1 or 2.
 pub fn states_lawful(p: Position, mines: &[i8], shown: &[u8], c: Census) -> bool
     requires { ⌜ length (now mines) ≡ length (now shown) ⌝ }
     requires { ⌜ Valued (now mines) ⌝ }
@@ -220,7 +220,8 @@ pub fn states_lawful(p: Position, mines: &[i8], shown: &[u8], c: Census) -> bool
     let game = p.game;
     let mouse = p.mouse;
     let asked = game_lawful(game, p, mines, shown, c);
-    asked & (!is_not_flag(mouse) | (1 <= p.counts.right))
+    let ruled = cells::rules_ok(p.settings.rules);
+    asked & ((!is_not_flag(mouse) | (1 <= p.counts.right)) & ruled)
 }
 
 // ---- the chain -------------------------------------------------------------------------------------------------------------------------

@@ -2,3 +2,4 @@ pub mod Moves
 pub mod Sums
 pub mod Secret
 pub mod Played
+pub mod Rules

@@ -1,1 +1,3 @@
 pub mod Secret
+pub mod Before
+pub mod Rules

@@ -82,25 +82,22 @@ fn released(held: bool, up: u8, down: u8) -> u8
     down
 }
 
-// r releases in UpDown and where both buttons are down; not in UpDownNotFlag.
-fn right_is_held(m: u8) -> bool
-    ensures { λ r. ⌜ r ≡ (eqb m 1 || bothDown m) ⌝ }
+// r releases in UpDown and where both buttons are down, by rules 2 in UpDownNotFlag too.
+fn right_is_held(rules: u8, m: u8) -> bool
+    ensures { λ r. ⌜ r ≡ (eqb m 1 || (bothDown m || (eqb m 2 && eqb rules 2))) ⌝ }
 {
-    if m == 1 {
-        return true;
-    }
-    both_down(m)
+    (m == 1) | (both_down(m) | ((m == 2) & (rules == 2)))
 }
 
 // l, r and m as plain codes; every other code stays.
-fn resolve(code: u8, m: u8, middle: bool) -> u8
-    ensures { λ r. ⌜ r ≡ resolved code m middle ⌝ }
+fn resolve(rules: u8, code: u8, m: u8, middle: bool) -> u8
+    ensures { λ r. ⌜ r ≡ resolved rules code m middle ⌝ }
 {
     if code == 9 {
         return released(3 <= m, 1, 0);
     }
     if code == 10 {
-        let held = right_is_held(m);
+        let held = right_is_held(rules, m);
         return released(held, 3, 2);
     }
     if code == 11 {
@@ -214,7 +211,7 @@ fn plain(p: Position, code: u8, x: Pointer) -> Event
 {
     let mouse = p.mouse;
     let m = rules::mouse_number(mouse);
-    let c = resolve(code, m, p.middle);
+    let c = resolve(p.settings.rules, code, m, p.middle);
     event_of(c, x)
 }
 

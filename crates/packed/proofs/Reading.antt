@@ -39,9 +39,9 @@ pub position-read : (s : List ℕ) {st : Settings} {g : GameState} {m : MouseSta
 position-read s hst hg hm hp he hc hk = rw (hst, hg, hm, hp, he, hc, hk)
 
 -- what stands for each number that a function of its own gives
-pub numbers-are : (a : Answer) {x x′ y y′ r c m q g g′ o o′ b : ℕ} → let p = a .position in x ≡ x′ → x′ ≡ rowByte (a .place) → y ≡ y′ → y′ ≡ columnByte (a .place)
+pub numbers-are : (a : Answer) {x x′ y y′ r c m q g g′ o o′ b u : ℕ} → let p = a .position in x ≡ x′ → x′ ≡ rowByte (a .place) → y ≡ y′ → y′ ≡ columnByte (a .place)
     → r ≡ p .settings .rows → c ≡ p .settings .columns → m ≡ p .settings .mode → q ≡ bit (p .settings .question)
-    → g ≡ g′ → g′ ≡ gameNumber (p .game) → o ≡ o′ → o′ ≡ mouseNumber (p .mouse) → b ≡ bit (p .middle)
-    → x ∷ y ∷ a .value ∷ r ∷ c ∷ m ∷ q ∷ g ∷ o ∷ b ∷ p .preflags ∷ p .events ∷ p .counts .left ∷ p .counts .right ∷ p .counts .double ∷ p .counts .lce ∷ p .secrets .rce ∷ p .counts .dce ∷ p .counts .flag ∷ p .secrets .«solved_left» ∷ p .secrets .«solved_chord» ∷ []
+    → g ≡ g′ → g′ ≡ gameNumber (p .game) → o ≡ o′ → o′ ≡ mouseNumber (p .mouse) → b ≡ bit (p .middle) → u ≡ p .settings .rules
+    → x ∷ y ∷ a .value ∷ r ∷ c ∷ m ∷ q ∷ g ∷ o ∷ b ∷ p .preflags ∷ p .events ∷ p .counts .left ∷ p .counts .right ∷ p .counts .double ∷ p .counts .lce ∷ p .secrets .rce ∷ p .counts .dce ∷ p .counts .flag ∷ p .secrets .«solved_left» ∷ p .secrets .«solved_chord» ∷ u ∷ []
     ≡ answerNumbers a
-numbers-are a hx hx′ hy hy′ hr hc hm hq hg hg′ ho ho′ hb = rw (hx, hx′, hy, hy′, hr, hc, hm, hq, hg, hg′, ho, ho′, hb)
+numbers-are a hx hx′ hy hy′ hr hc hm hq hg hg′ ho ho′ hb hu = rw (hx, hx′, hy, hy′, hr, hc, hm, hq, hg, hg′, ho, ho′, hb, hu)

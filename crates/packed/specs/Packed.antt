@@ -1,5 +1,5 @@
 -- A packed step: where the numbers of its position stand in its head of 80 bytes, and what a byte of its mine board is. Bytes 51 to 53 are the
--- event's code, row and column; 54 to 71 are reserved, 0 and not read; from 72 on stand the lengths of the mine board, the shown board, the bits and the work.
+-- event's code, row and column; 55 to 71 are reserved, 0 and not read; from 72 on stand the lengths of the mine board, the shown board, the bits and the work.
 use mathlib.Core.Bool.{Bool, not}
 use mathlib.Core.List.{List, map}
 use Prim.Native.Nat.{ℕ, _+_, _*_, _-_}
@@ -25,7 +25,7 @@ abbrev pub yes : ℕ → Bool
 yes b = not (eqb b 0)
 
 abbrev pub settingsIn : List ℕ → Settings
-settingsIn s = record { rows = getD s 0 0; columns = getD s 1 0; mode = getD s 2 0; question = yes (getD s 3 0) }
+settingsIn s = record { rows = getD s 0 0; columns = getD s 1 0; mode = getD s 2 0; question = yes (getD s 3 0); rules = getD s 54 0 }
 
 abbrev pub countsIn : List ℕ → Counts
 countsIn s =

@@ -50,6 +50,7 @@ fn settings_in(s: &Head) -> Settings
         columns: s[1],
         mode: s[2],
         question: s[3] != 0,
+        rules: s[54],
     }
 }
 
@@ -121,8 +122,8 @@ pub fn sign_all(bytes: &[u8], mines: &mut [i8])
 
 // ---- the line of an outcome ------------------------------------------------------------------------------------------------------------
 
-// The two numbers of an answer's place, its value, and the eighteen of its position.
-fn numbers(a: Answer) -> [u32; 21]
+// The two numbers of an answer's place, its value, and the nineteen of its position.
+fn numbers(a: Answer) -> [u32; 22]
     ensures { λ r. ⌜ r ≡ answerNumbers a ⌝ }
 {
     let x = a.place;
@@ -154,6 +155,7 @@ fn numbers(a: Answer) -> [u32; 21]
         c.flag,
         k.solved_left,
         k.solved_chord,
+        writing::wide(s.rules),
     ]
 }
 

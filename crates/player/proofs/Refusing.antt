@@ -1,6 +1,6 @@
 -- A refused book's place is no further than its length; an accepted book's boards are parts of what is lent.
 use mathlib.Core.Path.{_≡_, _∙_, ap, sym, refl, subst}
-use mathlib.Core.Bool.{Bool, true, false}
+use mathlib.Core.Bool.{Bool, true, false, _||_}
 use mathlib.Core.List.{List}
 use Prim.Native.Nat.{ℕ, zero, suc, _+_, _*_, _/_, _≤_}
 use native.Mathlib.Omega.{arith}
@@ -13,12 +13,14 @@ use Rattle.rules.specs.declared.Book.{Book}
 use Rattle.rules.specs.declared.Settings.{Settings}
 use Rattle.rules.specs.Grid.{sizeOk}
 use Rattle.rules.specs.Board.{mineOk}
+use Rattle.rules.specs.Mouse.{rulesOk}
 use Rattle.rules.specs.Calls.{modeOk}
 use Rattle.rules.specs.Lent.{bitBytes}
-use Rattle.rules.specs.Book.{byteAt, wordAt, orElse, reaches, maxEvents, eventsFrom, minesFrom, minesSection, settingsAt, settingsSection, mineCountAt, sectionsOf, eventsEnd, bookEnds, bookOf}
+use Rattle.rules.specs.Book.{byteAt, wordAt, rulesAt, orElse, reaches, maxEvents, eventsFrom, minesFrom, minesSection, settingsAt, settingsSection, mineCountAt, sectionsOf, eventsEnd, bookEnds, bookOf}
 use Rattle.rules.specs.Printout.{printoutBy, printoutOf}
 use Rattle.cells.proofs.Words.{pick-both}
 use Rattle.cells.proofs.Grid.{size-limits}
+use Rattle.book.proofs.Reading.{count-bounds}
 use Rattle.book.proofs.Writing.{accepted-writable}
 use Rattle.writing.specs.Put.{PutWithin}
 use Rattle.writing.proofs.Putting.{put-as}
@@ -32,9 +34,12 @@ use Rattle.player.specs.Rooms.{Enough}
 record Placed (n : ℕ) (b : Book) : Type 0 where
   pub within : b .place ≤ n
 
+or-else-tested : (n place : ℕ) (t : Bool) {most : ℕ} {rest : Book} → place ≤ most → (t ≡ true → Placed most rest) → Placed most (orElse n place t rest)
+or-else-tested n place true h a = a refl
+or-else-tested n place false h a = record { within = h }
+
 or-else-placed : (n place : ℕ) (t : Bool) {most : ℕ} {rest : Book} → place ≤ most → Placed most rest → Placed most (orElse n place t rest)
-or-else-placed n place true h a = a
-or-else-placed n place false h a = record { within = h }
+or-else-placed n place t h a = or-else-tested n place t h (λ _. a)
 
 reaches-placed : (s : List ℕ) (end : ℕ) {rest : Book} → (end ≤ length s → Placed (length s) rest) → Placed (length s) (reaches s end rest)
 reaches-placed s end {rest} f = go (leb end (length s)) refl
@@ -69,11 +74,13 @@ settings-placed : (s : List ℕ) {rest : Book} → Placed (length s) rest → Pl
 unfolding settingsSection
 settings-placed s a =
     reaches-placed s 1 (λ one.
-    or-else-placed 41 0 (eqb (byteAt s 0) 4) (omega arith)
-    (reaches-placed s 5 (λ five.
+    or-else-tested 41 0 (eqb (byteAt s 0) 4 || eqb (byteAt s 0) 5) (omega arith) (λ count.
+    let four = count-bounds (byteAt s 0) count .0 in
+    reaches-placed s (mineCountAt s) (λ there.
     or-else-placed 41 4 (leb (byteAt s 4) 1) (omega arith)
     (or-else-placed 20 1 (sizeOk (byteAt s 1) (byteAt s 2)) (omega arith)
-    (or-else-placed 25 3 (modeOk (byteAt s 3)) (omega arith) a)))))
+    (or-else-placed 25 3 (modeOk (byteAt s 3)) (omega arith)
+    (or-else-placed 45 5 (rulesOk (rulesAt s)) (omega arith) a))))))
 
 end-placed : (s : List ℕ) (end : ℕ) (b : Book) → Placed (length s) b → Placed (length s) (bookEnds s end b)
 unfolding bookEnds

@@ -69,10 +69,10 @@ pub fn print_book(
 }
 
 // Room for one book: one byte more than the longest has; boards, bits and work for 2,048 cells; every printout.
-pub fn book_buffer() -> [u8; 28680]
-    ensures { λ r. ⌜ 28680 ≡ length r ⌝ }
+pub fn book_buffer() -> [u8; 28681]
+    ensures { λ r. ⌜ 28681 ≡ length r ⌝ }
 {
-    [0; 28680]
+    [0; 28681]
 }
 
 pub fn mine_board() -> [i8; 2048]

@@ -17,6 +17,7 @@ use Rattle.rules.specs.Words.{pick, unless}
 use Rattle.rules.specs.States.{withMouse, withRight}
 use Rattle.rules.specs.Board.{boardRefusal}
 use Rattle.rules.specs.Clicks.{desk}
+use Rattle.rules.specs.Mouse.{rulesOk}
 use Rattle.rules.specs.Lawful.{shownLawful, bitsLawful, countsLawful, gameLawful, statesLawful, lawfulRefusal}
 use Rattle.rules.specs.Calls.{modeOk, settingsRefusal, positionRefusal}
 use Rattle.cells.proofs.Words.{and-left, and-right}
@@ -86,7 +87,7 @@ module _ (p : Position) where
     states-fail : countsLawful (desk spoiled shown bits) ≡ true → statesLawful B (desk spoiled shown bits) ≡ false
     unfolding statesLawful
     states-fail e =
-        ap (λ (b : Bool). gameLawful (p .game) B (desk spoiled shown bits) && leb 1 (pick b 0 (p .counts .right))) (right-allowed (sym counts-same ∙ e))
+        ap (λ (b : Bool). gameLawful (p .game) B (desk spoiled shown bits) && (leb 1 (pick b 0 (p .counts .right)) && rulesOk (p .settings .rules))) (right-allowed (sym counts-same ∙ e))
         ∙ and-no (gameLawful (p .game) B (desk spoiled shown bits))
 
     lawful-spoiled : lawfulRefusal B (desk spoiled shown bits) ≡ unclear (lawfulRefusal B (desk p shown bits))

@@ -13,6 +13,7 @@ use Rattle.rules.specs.Words.{pick, unless}
 use Rattle.rules.specs.Lent.{workRoom}
 use Rattle.rules.specs.Board.{boardRefusal, boardCheck}
 use Rattle.rules.specs.Clicks.{Desk}
+use Rattle.rules.specs.Mouse.{rulesOk}
 use Rattle.rules.specs.Lawful.{shownLawful, bitsLawful, countsLawful, statesLawful, lawfulRefusal}
 use Rattle.rules.specs.Calls.{boardsFit, workFits, modeOk, settingsRefusal, positionRefusal, positionCheck, lentRefusal, setupRefusal, totalRefusal, flowRefusal}
 use Rattle.cells.proofs.Words.{and-left}
@@ -59,10 +60,16 @@ settings-placeable s fit B rest n h k long e =
     (λ q. settings-heard s fit B rest 22 (omega arith) h (sym e ∙ q))
     (λ q. settings-heard s fit B rest 23 (omega arith) k (sym e ∙ q))
 
+rules-unheard : (t : Bool) (k : ℕ) → 0 < k → k < 45 → unless 45 t 0 ≡ k → ⊥
+rules-unheard true k z h e = omega arith
+rules-unheard false k z h e = omega arith
+
 pub setup-placeable : (s : Settings) (B : List ℤ) (shown bits : List ℕ) (n : ℕ) → n ≡ setupRefusal s B shown bits → Placeable (s .rows) (s .columns) B n
 unfolding setupRefusal
 setup-placeable s B shown bits n e =
-    settings-placeable s (boardsFit s B shown bits) B 0 n (λ (q : 0 ≡ 22). omega arith) (λ (q : 0 ≡ 23). omega arith) (fits-mines s B shown bits) e
+    settings-placeable s (boardsFit s B shown bits) B (unless 45 (rulesOk (s .rules)) 0) n
+    (rules-unheard (rulesOk (s .rules)) 22 (omega arith) (omega arith)) (rules-unheard (rulesOk (s .rules)) 23 (omega arith) (omega arith))
+    (fits-mines s B shown bits) e
 
 module _ (B : List ℤ) (d : Desk) (n : ℕ) where
   position-placeable : (fit : Bool) → (fit ≡ true → boardsFit (d .position .settings) B (d .shown) (d .bits) ≡ true) → n ≡ positionRefusal fit B d

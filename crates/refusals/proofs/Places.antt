@@ -18,6 +18,7 @@ use Rattle.rules.specs.Words.{pick, unless}
 use Rattle.rules.specs.Board.{boardRefusal, boardCheck, numberingRefusal}
 use Rattle.rules.specs.Lent.{workRoom}
 use Rattle.rules.specs.Clicks.{Desk, done}
+use Rattle.rules.specs.Mouse.{rulesOk}
 use Rattle.rules.specs.Step.{eventRefusal, refusalAt, plainOf, playAt, stepAt, stepBy, stepOn, pointerOf}
 use Rattle.rules.specs.Lawful.{lawfulRefusal}
 use Rattle.rules.specs.Calls.{boardsFit, workFits, modeOk, settingsRefusal, positionRefusal, positionCheck, lentRefusal, flowRefusal, setupRefusal, totalRefusal}
@@ -82,6 +83,13 @@ module _ (s : Settings) (fit : Bool) (B : List ℤ) where
   unfolding settingsRefusal boardRefusal first
   settings-rows = sym (first-append (boardRows (s .rows) (s .columns) fit B) (row 25 (modeOk (s .mode)) ∷ []) (refl, (refl, (refl, (refl, (refl, tt))))))
 
+  -- and whatever follows 20 to 25
+  rest-rows : (rest : ℕ) (ts : List Row) → rest ≡ first ts → settingsRefusal s fit B rest ≡ first (settingsRows s fit B ++ ts)
+  rest-rows rest ts e =
+      rest-by s fit B rest
+      ∙ ap₂ (λ (n m : ℕ). pick (eqb n 0) m n) settings-rows e
+      ∙ sym (first-append (settingsRows s fit B) ts (refl, (refl, (refl, (refl, (refl, (refl, tt)))))))
+
 pub lawful-rows : (B : List ℤ) (d : Desk) → lawfulRefusal B d ≡ first (lawfulRows B d)
 unfolding lawfulRefusal first
 lawful-rows B d = refl
@@ -89,11 +97,7 @@ lawful-rows B d = refl
 module _ (fit : Bool) (B : List ℤ) (d : Desk) where
   pub position-rows : positionRefusal fit B d ≡ first (positionRows fit B d)
   unfolding positionRefusal
-  position-rows =
-      let s = d .position .settings in
-      rest-by s fit B (lawfulRefusal B d)
-      ∙ ap₂ (λ (n m : ℕ). pick (eqb n 0) m n) (settings-rows s fit B) (lawful-rows B d)
-      ∙ sym (first-append (settingsRows s fit B) (lawfulRows B d) (refl, (refl, (refl, (refl, (refl, (refl, tt)))))))
+  position-rows = rest-rows (d .position .settings) fit B (lawfulRefusal B d) (lawfulRows B d) (lawful-rows B d)
 
 pub check-rows : (B : List ℤ) (d : Desk) → positionCheck B d ≡ first (checkRows B d)
 unfolding positionCheck
@@ -109,8 +113,8 @@ flow-rows B events d work =
     position-rows (boardsFit (d .position .settings) B (d .shown) (d .bits) && (workFits (d .position .settings) work && eqb (length events % 3) 0)) B d
 
 pub setup-rows : (s : Settings) (B : List ℤ) (shown bits : List ℕ) → setupRefusal s B shown bits ≡ first (setupRows s B shown bits)
-unfolding setupRefusal
-setup-rows s B shown bits = settings-rows s (boardsFit s B shown bits) B
+unfolding setupRefusal first
+setup-rows s B shown bits = rest-rows s (boardsFit s B shown bits) B (unless 45 (rulesOk (s .rules)) 0) (row 45 (rulesOk (s .rules)) ∷ []) refl
 
 -- ---- 30 to 33, once 20 to 264 are silent ------------------------------------------------------------------------------------------------
 

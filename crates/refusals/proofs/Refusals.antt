@@ -13,6 +13,7 @@ use Rattle.rules.specs.Words.{pick, unless}
 use Rattle.rules.specs.Lent.{bitBytes, workRoom}
 use Rattle.rules.specs.Board.{boardRefusal}
 use Rattle.rules.specs.Clicks.{Desk}
+use Rattle.rules.specs.Mouse.{rulesOk}
 use Rattle.rules.specs.Calls.{cellsIn, boardsFit, workFits, modeOk, settingsRefusal, positionRefusal, positionCheck, lentRefusal, setupRefusal, totalRefusal, flowRefusal}
 use Rattle.rules.specs.Lawful.{lawfulRefusal}
 use Rattle.cells.specs.Ground.{Mined}
@@ -69,17 +70,25 @@ module _ (s : Settings) (fit : Bool) (B : List ℤ) where
   pub rest-unheard : (rest : ℕ) → (settingsRefusal s fit B 0 ≡ 0 → ⊥) → settingsRefusal s fit B rest ≡ settingsRefusal s fit B 0
   rest-unheard rest h = rest-by rest ∙ ap (λ (t : Bool). pick t rest (settingsRefusal s fit B 0)) (ne-eqb _ _ h)
 
+-- a chain whose first part has found n
+module _ (s : Settings) (fit : Bool) (B : List ℤ) (rest n : ℕ) (e : n ≡ settingsRefusal s fit B 0) where
+  chain-refused : (n ≡ 0 → ⊥) → n ≡ settingsRefusal s fit B rest
+  chain-refused h = e ∙ sym (rest-unheard s fit B rest (λ q. h (e ∙ q)))
+
+  chain-last : {m : ℕ} → n ≡ 0 → m ≡ rest → m ≡ settingsRefusal s fit B rest
+  chain-last z l = l ∙ sym (rest-heard s fit B rest (sym e ∙ z))
+
 -- ---- 20 to 264 -------------------------------------------------------------------------------------------------------------------------
 
 module _ (fit : Bool) (B : List ℤ) (d : Desk) (n : ℕ) (e : n ≡ settingsRefusal (d .position .settings) fit B 0) where
   pub position-refused : (n ≡ 0 → ⊥) → n ≡ positionRefusal fit B d
   unfolding positionRefusal
-  position-refused h = e ∙ sym (rest-unheard (d .position .settings) fit B (lawfulRefusal B d) (λ q. h (e ∙ q)))
+  position-refused h = chain-refused (d .position .settings) fit B (lawfulRefusal B d) n e h
 
   -- then that of a position that is not lawful
   pub position-last : {m : ℕ} → n ≡ 0 → m ≡ lawfulRefusal B d → m ≡ positionRefusal fit B d
   unfolding positionRefusal
-  position-last z l = l ∙ sym (rest-heard (d .position .settings) fit B (lawfulRefusal B d) (sym e ∙ z))
+  position-last z l = chain-last (d .position .settings) fit B (lawfulRefusal B d) n e z l
 
   -- what 20 to 25 have shown lets the position be checked
   pub checkable : n ≡ 0 → (fit ≡ true → boardsFit (d .position .settings) B (d .shown) (d .bits) ≡ true) → Checkable B (d .shown) (d .bits)
@@ -106,16 +115,25 @@ pub flow-is : (B : List ℤ) (events : List ℕ) (d : Desk) (work : List ℕ) (t
 unfolding flowRefusal
 flow-is B events d work t u n e f h = h ∙ ap₂ (λ (a b : Bool). positionRefusal (a && (b && eqb (length events % 3) 0)) B d) e f
 
-pub setup-is : (s : Settings) (B : List ℤ) (shown bits : List ℕ) (t : Bool) (n : ℕ) → t ≡ boardsFit s B shown bits → n ≡ settingsRefusal s t B 0 → n ≡ setupRefusal s B shown bits
-unfolding setupRefusal
-setup-is s B shown bits t n e h = h ∙ ap (λ (u : Bool). settingsRefusal s u B 0) e
+module _ (s : Settings) (B : List ℤ) (shown bits : List ℕ) (t : Bool) (n : ℕ) (et : t ≡ boardsFit s B shown bits) (e : n ≡ settingsRefusal s t B 0) where
+  rest : ℕ
+  rest = unless 45 (rulesOk (s .rules)) 0
 
--- 20 to 25 silent: the boards have their lengths
+  pub setup-first : (n ≡ 0 → ⊥) → n ≡ setupRefusal s B shown bits
+  unfolding setupRefusal rest
+  setup-first h = chain-refused s t B rest n e h ∙ ap (λ (u : Bool). settingsRefusal s u B rest) et
+
+  -- then 45
+  pub setup-last : {m : ℕ} → n ≡ 0 → m ≡ unless 45 (rulesOk (s .rules)) 0 → m ≡ setupRefusal s B shown bits
+  unfolding setupRefusal rest
+  setup-last z l = chain-last s t B rest n e z l ∙ ap (λ (u : Bool). settingsRefusal s u B rest) et
+
+-- setup silent: the boards have their lengths
 pub setup-fits : (s : Settings) (B : List ℤ) (shown bits : List ℕ) (n : ℕ) → n ≡ setupRefusal s B shown bits → n ≡ 0
     → (length shown ≡ cellsIn s) × (length bits ≡ bitBytes (cellsIn s))
 unfolding setupRefusal
 setup-fits s B shown bits n e z =
-    let a = settings-accepted s (boardsFit s B shown bits) B 0 (sym e ∙ z) in
+    let a = settings-accepted s (boardsFit s B shown bits) B (unless 45 (rulesOk (s .rules)) 0) (sym e ∙ z) in
     let g = accepted-ground shown bits (a .0) (a .0 .fits) in
     (g .board, g .room)
 

@@ -17,6 +17,7 @@ use Rattle.rules.specs.Grid.{sizeOk}
 use Rattle.rules.specs.Board.{valuesOk, numbersOk, someSafe, minesIn, mineOk}
 use Rattle.rules.specs.Lent.{workRoom}
 use Rattle.rules.specs.Clicks.{Desk}
+use Rattle.rules.specs.Mouse.{rulesOk}
 use Rattle.rules.specs.Step.{mouse, badPreFlag, isUnknown, errsPlaying, errsPreFlaging, plainOf}
 use Rattle.rules.specs.Lawful.{shownLawful, bitsLawful, countsLawful, statesLawful}
 use Rattle.rules.specs.Calls.{boardsFit, workFits, modeOk}
@@ -67,7 +68,7 @@ flowRows B events d work =
     positionRows (boardsFit (d .position .settings) B (d .shown) (d .bits) && (workFits (d .position .settings) work && eqb (length events % 3) 0)) B d
 
 abbrev pub setupRows : Settings → List ℤ → List ℕ → List ℕ → List Row
-setupRows s B shown bits = settingsRows s (boardsFit s B shown bits) B
+setupRows s B shown bits = settingsRows s (boardsFit s B shown bits) B ++ (row 45 (rulesOk (s .rules)) ∷ [])
 
 abbrev pub totalRows : ℕ → ℕ → List ℤ → List ℕ → List Row
 totalRows R C B work = boardRows R C (eqb (length B) (R * C) && leb (workRoom (R * C)) (length work)) B

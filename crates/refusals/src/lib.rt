@@ -5,7 +5,9 @@ ghost use mathlib.Core.Path.{_≡_};
 ghost use mathlib.Core.Bool.{true};
 ghost use Prim.Native.Nat.{_*_};
 ghost use lib.ListN.{length};
+ghost use Rattle.rules.specs.Words.{unless};
 ghost use Rattle.rules.specs.Clicks.{desk};
+ghost use Rattle.rules.specs.Mouse.{rulesOk};
 ghost use Rattle.rules.specs.Calls.{refuses, checks, boardsFit, workFits, settingsRefusal, positionRefusal, positionCheck, lentRefusal, setupRefusal, totalRefusal, flowRefusal};
 ghost use Rattle.boards.specs.Faults.{Placeable};
 use rules::Answer;
@@ -78,11 +80,27 @@ pub fn lent_refusal(p: Position, mines: &[i8], shown: &[u8], bits: &[u8], work: 
     position_refusal(p, mines, shown, bits, boards & room)
 }
 
+// 45 for rules that are not the league's.
+fn rules_refusal(rules: u8) -> u16
+    ensures { λ r. ⌜ r ≡ unless 45 (rulesOk rules) 0 ⌝ }
+{
+    if !cells::rules_ok(rules) {
+        return 45;
+    }
+    0
+}
+
+// The first refusal of 20 to 25 and 45, or 0.
 pub fn setup_refusal(s: Settings, mines: &[i8], shown: &[u8], bits: &[u8]) -> u16
     ensures { λ r. ⌜ r ≡ setupRefusal s (now (mines .entry)) (now (shown .entry)) (now (bits .entry)) ⌝ }
 {
     let fit = boards_fit(s, mines, shown, bits);
-    settings_refusal(s, fit, mines)
+    let first = settings_refusal(s, fit, mines);
+    let last = rules_refusal(s.rules);
+    if first != 0 {
+        return first;
+    }
+    last
 }
 
 pub fn total_refusal(rows: u8, columns: u8, mines: &[i8], work: &[u16]) -> u16

@@ -1,5 +1,5 @@
 -- The game book: three sections in fixed order, read front to back; the first fault answers, with its byte place.
-use mathlib.Core.Bool.{Bool, true, false}
+use mathlib.Core.Bool.{Bool, true, false, _||_}
 use mathlib.Core.List.{List, []}
 use Prim.Native.Nat.{ℕ, zero, suc, _+_, _*_}
 use lib.Dec.{ltb, leb, eqb}
@@ -9,6 +9,7 @@ use Rattle.rules.specs.declared.Book.{Book}
 use Rattle.rules.specs.Words.{pick}
 use Rattle.rules.specs.Grid.{sizeOk}
 use Rattle.rules.specs.Board.{mineOk}
+use Rattle.rules.specs.Mouse.{rulesOk}
 use Rattle.rules.specs.Calls.{modeOk}
 
 abbrev pub byteAt : List ℕ → ℕ → ℕ
@@ -20,7 +21,7 @@ wordAt s at = byteAt s at + 256 * byteAt s (at + 1)
 
 -- no book; a refusal with its place
 abbrev pub noSettings : Settings
-noSettings = record { rows = 0; columns = 0; mode = 0; question = false }
+noSettings = record { rows = 0; columns = 0; mode = 0; question = false; rules = 0 }
 
 abbrev pub refusedBook : ℕ → ℕ → Book
 refusedBook n place = record { number = n; place = place; settings = noSettings; «mines_at» = 0; mines = 0; «events_at» = 0; events = 0 }
@@ -65,26 +66,31 @@ minesSection s at g =
     (orElse 24 at (ltb (wordAt s at) (g .rows * g .columns))
     (minesFrom s (g .rows) (g .columns) (at + 2) 0 (wordAt s at) (eventsFrom s (at + 2 + 2 * wordAt s at) g (at + 2) (wordAt s at))))
 
--- ---- settings: count byte 4, then rows, columns, mode, question (0 or 1) ---------------------------------------------------------------
+-- ---- settings: count byte 4 or 5, then rows, columns, mode, question (0 or 1), and with count 5 the rules ------------------------------
+
+-- count 4 means rules 1
+abbrev pub rulesAt : List ℕ → ℕ
+rulesAt s = pick (eqb (byteAt s 0) 5) (byteAt s 5) 1
 
 abbrev pub settingsAt : List ℕ → Settings
-settingsAt s = record { rows = byteAt s 1; columns = byteAt s 2; mode = byteAt s 3; question = eqb (byteAt s 4) 1 }
-
--- the settings count is tested first, then that its four bytes are there, then question, size, mode
-unfoldable pub settingsSection : List ℕ → Book → Book
-settingsSection s rest =
-    reaches s 1
-    (orElse 41 0 (eqb (byteAt s 0) 4)
-    (reaches s 5
-    (orElse 41 4 (leb (byteAt s 4) 1)
-    (orElse 20 1 (sizeOk (byteAt s 1) (byteAt s 2))
-    (orElse 25 3 (modeOk (byteAt s 3)) rest)))))
-
--- ---- the whole book --------------------------------------------------------------------------------------------------------------------
+settingsAt s = record { rows = byteAt s 1; columns = byteAt s 2; mode = byteAt s 3; question = eqb (byteAt s 4) 1; rules = rulesAt s }
 
 -- the mine count follows the settings: their count byte, and as many bytes
 abbrev pub mineCountAt : List ℕ → ℕ
 mineCountAt s = 1 + byteAt s 0
+
+-- the settings count is tested first, then that its four or five bytes are there, then question, size, mode, rules
+unfoldable pub settingsSection : List ℕ → Book → Book
+settingsSection s rest =
+    reaches s 1
+    (orElse 41 0 (eqb (byteAt s 0) 4 || eqb (byteAt s 0) 5)
+    (reaches s (mineCountAt s)
+    (orElse 41 4 (leb (byteAt s 4) 1)
+    (orElse 20 1 (sizeOk (byteAt s 1) (byteAt s 2))
+    (orElse 25 3 (modeOk (byteAt s 3))
+    (orElse 45 5 (rulesOk (rulesAt s)) rest))))))
+
+-- ---- the whole book --------------------------------------------------------------------------------------------------------------------
 
 -- the three sections: what stands up to the last event
 unfoldable pub sectionsOf : List ℕ → Book

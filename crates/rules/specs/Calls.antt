@@ -17,6 +17,7 @@ use Rattle.rules.specs.Board.{boardRefusal, boardCheck, faultOf, numbere
 use Rattle.rules.specs.Lent.{bitBytes, workRoom, workAfter}
 use Rattle.rules.specs.Judging.{total3bv, leftToSolve}
 use Rattle.rules.specs.Clicks.{Desk, Play, desk, done}
+use Rattle.rules.specs.Mouse.{rulesOk}
 use Rattle.rules.specs.Step.{stepOn}
 use Rattle.rules.specs.Lawful.{countShown, isOpen, lawfulRefusal}
 
@@ -107,10 +108,11 @@ setupBy n B otherwise s shown bits =
     (setUp (answers 0 (freshDesk s .position) 0) (freshDesk s .shown) (freshDesk s .bits))
     (setUp (refuses B otherwise n) shown bits)
 
+-- 20 to 25, then 45: the rules are 1 or 2
 unfoldable pub setupRefusal : Settings → List ℤ → List ℕ → List ℕ → ℕ
-setupRefusal s B shown bits = settingsRefusal s (boardsFit s B shown bits) B 0
+setupRefusal s B shown bits = settingsRefusal s (boardsFit s B shown bits) B (unless 45 (rulesOk (s .rules)) 0)
 
--- setup tests 20 to 25; it is given no position, so a refusal gives the fresh one back
+-- setup is given no position, so a refusal gives the fresh one back
 unfoldable pub setupOf : Settings → List ℤ → List ℕ → List ℕ → SetUp
 setupOf s B shown bits = setupBy (setupRefusal s B shown bits) B (freshOf s) s shown bits
 

@@ -12,6 +12,7 @@ use Rattle.rules.specs.States.{isLoss, isNotFlag}
 use Rattle.rules.specs.Board.{faceAt, mineAt}
 use Rattle.rules.specs.Lent.{bitAt}
 use Rattle.rules.specs.Clicks.{Desk, isWon}
+use Rattle.rules.specs.Mouse.{rulesOk}
 
 -- how many cells show something that passes a test
 unfoldable pub countShown : (ℕ → Bool) → List ℕ → ℕ
@@ -89,9 +90,11 @@ gameLawful Playing B d = not (isWon B (d .shown))
 gameLawful Win B d = isWon B (d .shown)
 gameLawful Loss B d = true
 
--- a NotFlag mouse state has right at least 1
+-- a NotFlag mouse state has right at least 1; the rules are 1 or 2
 unfoldable pub statesLawful : List ℤ → Desk → Bool
-statesLawful B d = gameLawful (d .position .game) B d && (not (isNotFlag (d .position .mouse)) || leb 1 (d .position .counts .right))
+statesLawful B d =
+    gameLawful (d .position .game) B d
+    && ((not (isNotFlag (d .position .mouse)) || leb 1 (d .position .counts .right)) && rulesOk (d .position .settings .rules))
 
 -- lawful means all of these
 unfoldable pub lawful : List ℤ → Desk → Bool

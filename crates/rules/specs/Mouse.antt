@@ -1,5 +1,5 @@
--- The mouse: the table of seven states, and resolving `l`, `r`, `m`.
-use mathlib.Core.Bool.{Bool, not, _||_}
+-- The mouse: the table of seven states, the league's rules, and resolving `l`, `r`, `m`.
+use mathlib.Core.Bool.{Bool, not, _&&_, _||_}
 use mathlib.Core.List.{List, [], _∷_}
 use Prim.Native.Nat.{ℕ}
 use lib.Dec.{leb, eqb}
@@ -32,11 +32,15 @@ moved e p = withMouse p (mouseAt (nextMouse e (mouseNumber (p .mouse))))
 unfoldable pub bothDown : ℕ → Bool
 bothDown m = eqb m 4 || eqb m 5
 
--- `l` is a release in states 3 to 6, `r` in 1, 4 and 5, `m` where the middle flag is set; every other code stays
-unfoldable pub resolved : ℕ → ℕ → Bool → ℕ
-resolved code m middle =
+-- the league's rules: 1 and 2
+unfoldable pub rulesOk : ℕ → Bool
+rulesOk rules = eqb rules 1 || eqb rules 2
+
+-- `l` is a release in states 3 to 6, `r` in 1, 4 and 5, and in 2 where the rules are 2, `m` where the middle flag is set; every other code stays
+unfoldable pub resolved : ℕ → ℕ → ℕ → Bool → ℕ
+resolved rules code m middle =
     pick (eqb code 9) (pick (leb 3 m) 1 0)
-    (pick (eqb code 10) (pick (eqb m 1 || bothDown m) 3 2)
+    (pick (eqb code 10) (pick (eqb m 1 || (bothDown m || (eqb m 2 && eqb rules 2))) 3 2)
     (pick (eqb code 11) (pick middle 6 5)
     code))
 

@@ -1,4 +1,4 @@
--- The positions that document 01 marks P, and six beside them, as one table and one theorem that the checker computes over the definitions; after it
+-- The positions that document 01 marks P, and ten beside them, as one table and one theorem that the checker computes over the definitions; after it
 -- the same for positions that are refused.
 -- Open is lc, lr; flag rc, rr. Each row is a game from its fresh start: settings, mine list, events, all that stands at its end, and what each event opened.
 use mathlib.Core.Path.{_≡_, refl}
@@ -20,7 +20,7 @@ use Rattle.rules.specs.Opening.{shownAfter, stackAfter, hitAfter, run, c
 use Rattle.rules.specs.Judging.{freeAt, kind, walk, walkFrom, judgedLeft, judgeOne, tally, openingsJudged, lones, total3bv, bvOf, notOpenAt, leftToSolve}
 use Rattle.rules.specs.Clicks.{Desk, Play, desk, done, rowsOf, columnsOf, cellsOf, flagAt, isWon, ended, solvesLeft, leftOpens, leftClick, bitsWith, addsRce, takeBack, chordIsUseful, chordOpens, performChord}
 use Rattle.rules.specs.Passes.{remainder, allClosed, ripeAt, listed, flagOne, flagAll, flagRound, flagPass, chordOne, chordScan, chordRound, chordPass, bothRound, bothPass, passesAfterFlag, passesAfterChord, rightClick, chordingClick}
-use Rattle.rules.specs.Mouse.{mouseTable, nextMouse, moved, bothDown, resolved, flipped}
+use Rattle.rules.specs.Mouse.{mouseTable, nextMouse, moved, bothDown, rulesOk, resolved, flipped}
 use Rattle.rules.specs.Step.{seenAt, leftAt, rightAt, chordAt, chordFrom, playLc, playLr, playRc, playRr, playing, preFlag, readyLc, readyRc, ready, preLeft, preLr, preCell, preRight, preRc, preFlaging, byGame, pointerOf, eventOf, errsPlaying, errsPreFlaging, badPreFlag, eventRefusal, plainOf, refusalAt, playAt, stepAt, stepBy, stepOn}
 use Rattle.rules.specs.Lawful.{countShown, cellLawful, shownLawful, bitsLawful, countsLawful, gameLawful, statesLawful, lawfulRefusal}
 use Rattle.rules.specs.Calls.{boardsFit, modeOk, settingsRefusal, positionRefusal, positionCheck, positionCheckOf, freshDesk, plays, lastPlay, openedIn}
@@ -96,9 +96,13 @@ wrongRows (t ∷ ts) =
     && (same eqz (remaindersIn (last t .desk) (cellsOf (last t .desk))) (t .remainders) && same eqb (openedFrom (fresh (t .settings) .desk .shown) (played t)) (t .opened)))
     more (t .name ∷ more)
 
--- rows, columns, mode, question marks
+-- rows, columns, mode, question marks; rules 1
 size : ℕ → ℕ → ℕ → Bool → Settings
-size R C mode q = record { rows = R; columns = C; mode = mode; question = q }
+size R C mode q = record { rows = R; columns = C; mode = mode; question = q; rules = 1 }
+
+-- the same under rules 2
+byRules2 : Settings → Settings
+byRules2 s = record { rows = s .rows; columns = s .columns; mode = s .mode; question = s .question; rules = 2 }
 
 row : ℕ → Settings → List ℕ → List ℕ → List ℕ → List ℤ → List ℕ → Row
 row n s mines events gives remainders opened =
@@ -172,10 +176,20 @@ table =
     -- 0 left is no Win: a number beside a 0 keeps nothing; 1×3, mine (0,2): flag (0,1), open (0,0)
     ∷ row 20 (size 1 3 0 false) (0 ∷ 2 ∷ []) (flag′ 0 1 (open′ 0 0 []))
     (2 ∷ 1 ∷ 0 ∷ 1 ∷ 1 ∷ 0 ∷ 1 ∷ 0 ∷ 0 ∷ 1 ∷ 1 ∷ 0 ∷ 1 ∷ 0 ∷ 0 ∷ 11 ∷ 10 ∷ []) [] (0 ∷ 0 ∷ 0 ∷ 1 ∷ [])
+    -- the league's rules; 1×3, mine (0,0); open (0,1), rc (0,1), r (0,1): Playing, by rules 1 UpDownNotFlag is kept, by rules 2 it is released
+    ∷ row 21 (size 1 3 0 false) (0 ∷ 0 ∷ []) (open′ 0 1 (event 2 0 1 (event 10 0 1 [])))
+    (0 ∷ 1 ∷ 2 ∷ 1 ∷ 1 ∷ 0 ∷ 1 ∷ 0 ∷ 0 ∷ 0 ∷ 0 ∷ 0 ∷ 1 ∷ 1 ∷ 10 ∷ 1 ∷ 10 ∷ []) (pos 1 ∷ []) (0 ∷ 1 ∷ 0 ∷ 0 ∷ [])
+    ∷ row 22 (byRules2 (size 1 3 0 false)) (0 ∷ 0 ∷ []) (open′ 0 1 (event 2 0 1 (event 10 0 1 [])))
+    (0 ∷ 1 ∷ 0 ∷ 1 ∷ 1 ∷ 0 ∷ 1 ∷ 0 ∷ 0 ∷ 0 ∷ 0 ∷ 0 ∷ 1 ∷ 1 ∷ 10 ∷ 1 ∷ 10 ∷ []) (pos 1 ∷ []) (0 ∷ 1 ∷ 0 ∷ 0 ∷ [])
+    -- flag (0,1), rc off the board, r (0,0): PreFlaging, by rules 1 a press, 33, by rules 2 a release
+    ∷ row 23 (size 1 3 0 false) (0 ∷ 0 ∷ []) (flag′ 0 1 (event 2 1 3 (event 10 0 0 [])))
+    (33 ∷ 4 ∷ 2 ∷ 0 ∷ 2 ∷ 0 ∷ 0 ∷ 0 ∷ 0 ∷ 1 ∷ 0 ∷ 0 ∷ 1 ∷ 1 ∷ 10 ∷ 11 ∷ 10 ∷ []) [] (0 ∷ 0 ∷ 0 ∷ 0 ∷ [])
+    ∷ row 24 (byRules2 (size 1 3 0 false)) (0 ∷ 0 ∷ []) (flag′ 0 1 (event 2 1 3 (event 10 0 0 [])))
+    (0 ∷ 4 ∷ 0 ∷ 0 ∷ 2 ∷ 0 ∷ 0 ∷ 0 ∷ 0 ∷ 1 ∷ 0 ∷ 0 ∷ 1 ∷ 1 ∷ 10 ∷ 11 ∷ 10 ∷ []) [] (0 ∷ 0 ∷ 0 ∷ 0 ∷ [])
     ∷ []
 
 pub positions : wrongRows table ≡ []
-unfolding wrongRows same eqz remaindersIn played last openedFrom countShown ends told fresh table row size open′ flag′ event count every inOrder stackOf rounds mouseAt sizeOk ninth cellBefore neighbour
+unfolding wrongRows same eqz remaindersIn played last openedFrom countShown ends told fresh table row size byRules2 open′ flag′ event count every inOrder stackOf rounds mouseAt sizeOk ninth cellBefore neighbour
     around cellsIf pushed zeroAt loneAt mineOk listedMine numberedAt numbered numberingRefusal bitAt withBit shownAfter stackAfter hitAfter run crossed refreshed freeAt
     kind walk walkFrom judgedLeft judgeOne tally openingsJudged lones bvOf total3bv notOpenAt leftToSolve isWon ended solvesLeft leftOpens leftClick bitsWith addsRce takeBack
     chordIsUseful chordOpens performChord allClosed ripeAt listed flagOne flagAll flagRound flagPass chordOne chordScan chordRound chordPass bothRound bothPass
@@ -241,5 +255,5 @@ typedTable =
 pub typed-positions : wrongTyped typedTable ≡ []
 unfolding wrongTyped same checked typedTable typed numbers right-numbers size positionCheck positionRefusal settingsRefusal boardsFit modeOk boardRefusal sizeOk valuesOk
     numbersOk numberOk someSafe faultOf firstNot every count around neighbour ninth cellBefore lawfulRefusal shownLawful cellLawful bitsLawful bitAt
-    countsLawful countShown statesLawful gameLawful
+    countsLawful countShown statesLawful gameLawful rulesOk
 typed-positions = refl

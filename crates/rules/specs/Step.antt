@@ -270,7 +270,7 @@ eventRefusal Loss e d = 0
 
 -- the plain event that a code and a pointer are at a desk
 unfoldable pub plainOf : ℕ → Pointer → Desk → Event
-plainOf code x d = eventOf (resolved code (mouse d) (d .position .middle)) x
+plainOf code x d = eventOf (resolved (d .position .settings .rules) code (mouse d) (d .position .middle)) x
 
 -- 31: 65,535 events were accepted; then 32 and 33
 unfoldable pub refusalAt : ℕ → Pointer → Desk → ℕ

@@ -48,11 +48,13 @@ pub enum Event {
     Unknown { code: u8, pointer: Pointer },
 }
 
+// The league's rules are a number and no enum, since every byte is taken: 1 and 2 are allowed.
 pub struct Settings {
     pub rows: u8,
     pub columns: u8,
     pub mode: u8,
     pub question: bool,
+    pub rules: u8,
 }
 
 // What a display may be handed during a game.

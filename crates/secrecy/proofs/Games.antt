@@ -75,7 +75,7 @@ use Rattle.rules.specs.Lawful.{countShown}
 use Rattle.rules.specs.Calls.{plays, cellsIn}
 use Rattle.cells.proofs.Words.{every-at}
 use Rattle.secrecy.specs.Demand.{Seen, seenAll, seenOf, playsOn, game, stopped, lastDesk, endOf, AgreeWhere, AgreeOpen, AgreeFlag}
-use Rattle.secrecy.specs.Witness.{line, mine, opens, flags, playedA, playedB, playedEvents, lostA, lostB, lostEvents, onwardA, onwardB, onwardEvents, heard, sums, end}
+use Rattle.secrecy.specs.Witness.{line, mine, opens, flags, playedA, playedB, playedEvents, lostA, lostB, lostEvents, onwardA, onwardB, onwardEvents, byRules2, releasedEvents, heard, sums, end}
 
 -- ---- the hypotheses as tests -------------------------------------------------------------------------------------------------------------
 
@@ -153,11 +153,17 @@ Onward = Pair game (line 5) onwardEvents onwardA onwardB (1 ∷ 11 ∷ 10 ∷ 10
 abbrev pub Refused : Type 0
 Refused = Pair stopped (line 2) (4 ∷ 0 ∷ 2 ∷ opens 0 []) (pos 1 ∷ mine ∷ []) (mine ∷ pos 1 ∷ []) (10 ∷ 10 ∷ []) 210 310
 
--- what is heard in the game that goes on, with its sums, and if it were stopped
+-- by rules 2 the button is released and a flag is set, with a hidden mine in different places
+abbrev pub Released : Type 0
+Released = Pair game (byRules2 (line 5)) releasedEvents onwardA onwardB (1 ∷ 11 ∷ 10 ∷ 10 ∷ 10 ∷ []) 111 111
+
+-- what is heard in the game that goes on, with its sums, and if it were stopped; and of the same events by rules 2 and by rules 1
 pub record Heard : Type 0 where
   pub sums : sums (seenOf (line 5) (game (line 5) onwardEvents onwardA)) ≡ 0 ∷ 0 ∷ 1 ∷ 0 ∷ 0 ∷ 0 ∷ 0 ∷ []
-  pub game : heard (game (line 5) onwardEvents onwardA) ≡ 0 ∷ 32 ∷ 2 ∷ 33 ∷ 30 ∷ 1 ∷ 0 ∷ []
-  pub stopped : heard (stopped (line 5) onwardEvents onwardA) ≡ 0 ∷ 32 ∷ []
+  pub onward : heard (game (line 5) onwardEvents onwardA) ≡ 0 ∷ 32 ∷ 2 ∷ 33 ∷ 30 ∷ 1 ∷ 0 ∷ []
+  pub broken : heard (stopped (line 5) onwardEvents onwardA) ≡ 0 ∷ 32 ∷ []
+  pub two : heard (game (byRules2 (line 5)) releasedEvents onwardA) ≡ 0 ∷ 2 ∷ 0 ∷ 0 ∷ 1 ∷ 0 ∷ []
+  pub one : heard (game (line 5) releasedEvents onwardA) ≡ 0 ∷ 2 ∷ 0 ∷ 0 ∷ 0 ∷ 0 ∷ []
 
 -- what the game still played hides on either board
 pub record Kept : Type 0 where
@@ -176,6 +182,7 @@ pub record Games : Type 0 where
   pub flag : Flag
   pub onward : Onward
   pub refused : Refused
+  pub released : Released
   pub heard : Heard
   pub kept : Kept
 
@@ -196,6 +203,7 @@ games = record {
   flag = record { first = refl; second = refl; ends = refl; seenA = refl; seenB = refl };
   onward = record { first = refl; second = refl; ends = refl; seenA = refl; seenB = refl };
   refused = record { first = refl; second = refl; ends = refl; seenA = refl; seenB = refl };
-  heard = record { sums = refl; game = refl; stopped = refl };
+  released = record { first = refl; second = refl; ends = refl; seenA = refl; seenB = refl };
+  heard = record { sums = refl; onward = refl; broken = refl; two = refl; one = refl };
   kept = record { secretsA = refl; secretsB = refl; bitsA = refl; bitsB = refl };
 }

@@ -9,7 +9,7 @@ use lib.ListN.{getD}
 use Rattle.rules.specs.declared.Secrets.{Secrets}
 use Rattle.rules.specs.Words.{count, every}
 use Rattle.secrecy.specs.Demand.{seenOf, game, stopped, endOf, Twins}
-use Rattle.secrecy.specs.Witness.{line, playedA, playedB, playedEvents, lostA, lostB, lostEvents, onwardA, onwardB, onwardEvents, heard, sums, end, Differ}
+use Rattle.secrecy.specs.Witness.{line, playedA, playedB, playedEvents, lostA, lostB, lostEvents, onwardA, onwardB, onwardEvents, byRules2, releasedEvents, heard, sums, end, Differ}
 use Rattle.secrecy.proofs.Secrecy.{secrecy}
 use Rattle.secrecy.proofs.Games.{open-agree, agree-at, no-hit, games}
 
@@ -58,11 +58,33 @@ onward-twins =
       flags = no-hit g refl;
     }
 
+-- and by one under rules 2, in which `r` releases UpDownNotFlag
+pub released-twins : Twins (byRules2 (line 5)) (endOf (byRules2 (line 5)) (game (byRules2 (line 5)) releasedEvents onwardA)) onwardA onwardB
+unfolding count every
+released-twins =
+    let g = games .released in
+    record {
+      first = g .first;
+      second = g .second;
+      mines = refl;
+      opens = open-agree g refl;
+      wrong = agree-at g 14 refl;
+      hits = agree-at g 15 refl;
+      flags = no-hit g refl;
+    }
+
+-- the same events under rules 1 set no flag
+pub released-heard : heard (game (byRules2 (line 5)) releasedEvents onwardA) ≡ 0 ∷ 2 ∷ 0 ∷ 0 ∷ 1 ∷ 0 ∷ []
+released-heard = games .heard .two
+
+pub pressed-heard : heard (game (line 5) releasedEvents onwardA) ≡ 0 ∷ 2 ∷ 0 ∷ 0 ∷ 0 ∷ 0 ∷ []
+pressed-heard = games .heard .one
+
 pub onward-heard : heard (game (line 5) onwardEvents onwardA) ≡ 0 ∷ 32 ∷ 2 ∷ 33 ∷ 30 ∷ 1 ∷ 0 ∷ []
-onward-heard = games .heard .game
+onward-heard = games .heard .onward
 
 pub stopped-heard : heard (stopped (line 5) onwardEvents onwardA) ≡ 0 ∷ 32 ∷ []
-stopped-heard = games .heard .stopped
+stopped-heard = games .heard .broken
 
 -- the number that was opened is one cell, and a refused event opens none
 pub onward-sums : sums (seenOf (line 5) (game (line 5) onwardEvents onwardA)) ≡ 0 ∷ 0 ∷ 1 ∷ 0 ∷ 0 ∷ 0 ∷ 0 ∷ []
@@ -77,6 +99,9 @@ lost-seen = secrecy (line 10) lostEvents lostA lostB lost-twins
 
 pub onward-seen : seenOf (line 5) (game (line 5) onwardEvents onwardA) ≡ seenOf (line 5) (game (line 5) onwardEvents onwardB)
 onward-seen = secrecy (line 5) onwardEvents onwardA onwardB onward-twins
+
+pub released-seen : seenOf (byRules2 (line 5)) (game (byRules2 (line 5)) releasedEvents onwardA) ≡ seenOf (byRules2 (line 5)) (game (byRules2 (line 5)) releasedEvents onwardB)
+released-seen = secrecy (byRules2 (line 5)) releasedEvents onwardA onwardB released-twins
 
 -- what is not promised differs
 pub played-differ : Differ (end (line 16) playedEvents playedA) (end (line 16) playedEvents playedB)

@@ -1,5 +1,5 @@
--- Three pairs of games that meet the hypotheses of the demand, with a hidden mine in different places: one still played, one lost, one that
--- goes on after refused events. proofs/Witness.antt computes them.
+-- Four pairs of games that meet the hypotheses of the demand, with a hidden mine in different places: one still played, one lost, one that
+-- goes on after refused events, one by rules 2. proofs/Witness.antt computes them.
 use mathlib.Core.Path.{_≡_}
 use mathlib.Core.Bool.{false}
 use mathlib.Core.List.{List, [], _∷_}
@@ -10,9 +10,9 @@ use Rattle.rules.specs.Clicks.{Desk, Play}
 use Rattle.rules.specs.Calls.{freshDesk}
 use Rattle.secrecy.specs.Demand.{Seen, game, lastDesk}
 
--- one row in mode 0, question marks off
+-- one row in mode 0, question marks off, rules 1
 abbrev pub line : ℕ → Settings
-line n = record { rows = 1; columns = n; mode = 0; question = false }
+line n = record { rows = 1; columns = n; mode = 0; question = false; rules = 1 }
 
 abbrev pub mine : ℤ
 mine = negsuc 0
@@ -59,6 +59,14 @@ onwardB = pos 1 ∷ mine ∷ pos 1 ∷ pos 1 ∷ mine ∷ []
 -- lc; pf off the board, refused with 32; lr; pf while Playing, with 33; mv neither on a cell nor off the board, with 30; a flag
 abbrev pub onwardEvents : List ℕ
 onwardEvents = 0 ∷ 0 ∷ 0 ∷ 8 ∷ 1 ∷ 5 ∷ 1 ∷ 0 ∷ 0 ∷ 8 ∷ 0 ∷ 2 ∷ 4 ∷ 0 ∷ 5 ∷ flags 1 []
+
+-- the same by rules 2
+abbrev pub byRules2 : Settings → Settings
+byRules2 s = record { rows = s .rows; columns = s .columns; mode = s .mode; question = s .question; rules = 2 }
+
+-- on the same boards: open 0, rc and r on the open cell, flag 1; both end as 1 11 10 10 10 by rules 2, and by rules 1 without the flag
+abbrev pub releasedEvents : List ℕ
+releasedEvents = opens 0 (2 ∷ 0 ∷ 0 ∷ 10 ∷ 0 ∷ 0 ∷ flags 1 [])
 
 -- the answers and refusals of a row of plays
 unfoldable pub heard : List Play → List ℕ

@@ -20,7 +20,7 @@ same-length-2 : tie.Need-same-length-2
 same-length-2 c = search needs
 
 returns : tie.Need-returns
-returns c = setup-flat _ _ _ _ _ _ _ _ _ _ _ _ (c .before .before .before .before .before .before .before .before .settings-of .ensures) (c .before .before .before .before .before .setup .ensures) (c .flat-answer .ensures)
+returns c = setup-flat _ _ _ _ _ _ _ _ _ _ _ _ _ (c .before .before .before .before .before .before .before .before .settings-of .ensures) (c .before .before .before .before .before .setup .ensures) (c .flat-answer .ensures)
 
 pub lm-setup-spec : {M : Type 1} → statement M
 lm-setup-spec =

@@ -43,8 +43,11 @@ wide-requires-7 c κs = search needs
 one-if-requires-2 : tie.Need-one-if-requires-2
 one-if-requires-2 c κs = search needs
 
+wide-requires-8 : tie.Need-wide-requires-8
+wide-requires-8 c κs = search needs
+
 returns : tie.Need-returns
-returns c = numbers-are (c .before .before .before .before .before .before .before .before .before .before .before .before .before .before .before .before .before .args .a) (c .before .before .before .before .before .before .before .before .before .before .before .wide .ensures .0) (c .before .before .before .before .before .before .before .before .before .before .before .before .row-byte .ensures) (c .before .before .before .before .before .before .before .before .before .wide2 .ensures .0) (c .before .before .before .before .before .before .before .before .before .before .column-byte .ensures) (c .before .before .before .before .before .before .before .before .wide3 .ensures .0) (c .before .before .before .before .before .before .before .wide4 .ensures .0) (c .before .before .before .before .before .before .wide5 .ensures .0) (c .before .before .before .before .before .one-if .ensures .0) (c .before .before .before .wide6 .ensures .0) (c .before .before .before .before .game-number .ensures) (c .before .wide7 .ensures .0) (c .before .before .mouse-number .ensures) (c .one-if2 .ensures .0)
+returns c = numbers-are (c .before .before .before .before .before .before .before .before .before .before .before .before .before .before .before .before .before .before .args .a) (c .before .before .before .before .before .before .before .before .before .before .before .before .wide .ensures .0) (c .before .before .before .before .before .before .before .before .before .before .before .before .before .row-byte .ensures) (c .before .before .before .before .before .before .before .before .before .before .wide2 .ensures .0) (c .before .before .before .before .before .before .before .before .before .before .before .column-byte .ensures) (c .before .before .before .before .before .before .before .before .before .wide3 .ensures .0) (c .before .before .before .before .before .before .before .before .wide4 .ensures .0) (c .before .before .before .before .before .before .before .wide5 .ensures .0) (c .before .before .before .before .before .before .one-if .ensures .0) (c .before .before .before .before .wide6 .ensures .0) (c .before .before .before .before .before .game-number .ensures) (c .before .before .wide7 .ensures .0) (c .before .before .before .mouse-number .ensures) (c .before .one-if2 .ensures .0) (c .wide8 .ensures .0)
 
 pub numbers-spec : {M : Type 1} → statement M
 numbers-spec =
@@ -63,4 +66,5 @@ numbers-spec =
     mouse-number-requires
     wide-requires-7
     one-if-requires-2
+    wide-requires-8
     returns)

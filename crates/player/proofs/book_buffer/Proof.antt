@@ -6,7 +6,7 @@ use Rattle.player.proofs.book_buffer.Statement.{statement}
 use Rattle.player.proofs.book_buffer.Tie as tie
 
 returns : tie.Need-returns
-returns c = sym (length-replicate {0} {A = ℕ} 28680 0)
+returns c = sym (length-replicate {0} {A = ℕ} 28681 0)
 
 pub book-buffer-spec : {M : Type 1} → statement M
 book-buffer-spec = tie.close (tie.spec returns)
