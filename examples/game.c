@@ -45,6 +45,14 @@ static lm_answer step(lm_position p, uint8_t code, uint8_t row, uint8_t column)
     return lm_step(p, code, row, column, MINES(p), SHOWN(p), BITS(p), WORK(p));
 }
 
+// An event as a book may have it, LM_L, LM_R and LM_M too: it is resolved, and the plain code stepped with.
+static lm_answer event(lm_position p, uint8_t code, uint8_t row, uint8_t column)
+{
+    lm_answer a = lm_resolve(p, code, row, column, MINES(p), SHOWN(p), BITS(p));
+    if (a.number != LM_NOTHING) return a;
+    return step(a.position, (uint8_t)a.value, row, column);
+}
+
 static lm_position begin(uint8_t rows, uint8_t columns, uint8_t rules, const uint8_t *list, size_t length)
 {
     expect("numbering", lm_number_mines(rows, columns, list, length, mines, LM_CELLS(rows, columns)), LM_NOTHING);
@@ -92,7 +100,7 @@ static void won(void)
     printf("game %d %d %d %d\n", p.rows, p.columns, p.mode, p.question);
     for (size_t n = 0; n < b.events; n++) {
         const uint8_t *e = book + b.events_at + 3 * n;
-        lm_answer a = step(p, e[0], e[1], e[2]);
+        lm_answer a = event(p, e[0], e[1], e[2]);
         p = a.position;
         printf("%zu %u %d %d\n", n + 1, a.number, p.game, p.mouse);
     }
@@ -142,7 +150,8 @@ static void lost(void)
     expect_shown(p, wanted);
 }
 
-// A book that says its rules: 1 x 3, a mine at (0, 0); open (0, 1), a right press on it, and then `r`, by rules 2 a release.
+// A book that says its rules: 1 x 3, a mine at (0, 0); open (0, 1), a right press on it, and then `r`, by rules 2 a release. In one call, and event by
+// event.
 static void released(void)
 {
     static const uint8_t book[] = {5, 1, 3, 0, 0, 2, 1, 0, 0, 0, 4, 0, LM_LC, 0, 1, LM_LR, 0, 1, LM_RC, 0, 1, LM_R, 0, 1};
@@ -156,8 +165,15 @@ static void released(void)
         expect("its events", a.number, LM_NOTHING);
         expect("the mouse", a.position.mouse, rules == 2 ? LM_UP_UP : LM_UP_DOWN_NOT_FLAG);
         expect("the rules", a.position.rules, rules);
+        lm_position played = a.position;
         a = lm_reset(a.position, MINES(p), SHOWN(p), BITS(p));
         expect_position("the position after reset", a.position, p);
+        for (size_t n = 0; n < b.events; n++) {
+            const uint8_t *e = book + b.events_at + 3 * n;
+            a = event(a.position, e[0], e[1], e[2]);
+            expect("an event by itself", a.number < LM_BAD_SIZE, 1);
+        }
+        expect_position("the position after the same events by themselves", a.position, played);
     }
 }
 

@@ -1,5 +1,5 @@
 // Plays through the library from Rust, by the safe wrapper: document 01's book, which is won, with a display on another thread; a game that is
-// lost; a button by the league's rules 1 and 2; and what is refused. Every outcome is held to what it must be.
+// lost; a button by the league's rules 1 and 2; buttons that only say that they changed; and what is refused. Every outcome is held to what it must be.
 #[allow(dead_code)] // the wrapper offers more than this game needs
 mod liftmanger;
 
@@ -94,6 +94,22 @@ fn released() -> Result<(), Refusal> {
     Ok(())
 }
 
+/// Buttons that only say that they changed, as their presses and releases: `m` turns the middle flag over, and a refused one does not.
+fn toggled() -> Result<(), Refusal> {
+    let mut game = Game::<9, 2, 80>::new(by_hand(3, 3), &[[2, 2]])?;
+    let middle = Pointer::Cell(1, 1);
+    for down in [true, false, true] {
+        assert_eq!(game.step(Code::M, Pointer::Cell(0, 3)), Err(at_no_cell(30)));
+        assert_eq!(game.view().middle, !down);
+        assert_eq!(game.step(Code::M, middle), Ok(Step { answer: Answer::Nothing, opened: 0 }));
+        assert_eq!(game.view().middle, down);
+    }
+    assert_eq!(game.step(Code::L, middle), Ok(Step { answer: Answer::Nothing, opened: 0 }));
+    assert_eq!(game.step(Code::L, middle), Ok(Step { answer: Answer::Opened, opened: 1 }));
+    assert_eq!((game.view().game, game.view().mouse, game.view().events), (GameState::Playing, MouseState::UpUp, 5));
+    Ok(())
+}
+
 fn refused() -> Result<(), Refusal> {
     assert_eq!(Game::<9, 2, 80>::new(by_hand(65, 3), &[]).err(), Some(at_no_cell(20)));
     assert_eq!(Game::<9, 2, 80>::new(by_hand(3, 4), &[]).err(), Some(at_no_cell(21)));
@@ -116,5 +132,6 @@ fn main() -> Result<(), Refusal> {
     won()?;
     lost()?;
     released()?;
+    toggled()?;
     refused()
 }

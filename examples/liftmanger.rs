@@ -77,6 +77,18 @@ mod raw {
             bits: *mut u8,
             bits_n: usize,
         ) -> Answer;
+        pub fn lm_resolve(
+            position: Position,
+            code: u8,
+            row: u8,
+            column: u8,
+            mines: *const i8,
+            mines_n: usize,
+            shown: *const u8,
+            shown_n: usize,
+            bits: *const u8,
+            bits_n: usize,
+        ) -> Answer;
         pub fn lm_step(
             position: Position,
             code: u8,
@@ -173,7 +185,7 @@ pub enum MouseState {
     DownUpAfterChording,
 }
 
-/// An event's code.
+/// An event's code. `L`, `R` and `M` say that a button changed, and are resolved into a press or a release.
 #[derive(Clone, Copy, Debug, PartialEq, Eq)]
 pub enum Code {
     Lc = 0,
@@ -305,17 +317,48 @@ impl<const CELLS: usize, const BITS: usize, const WORK: usize> Game<CELLS, BITS,
         Ok(Game { position: a.position, mines, shown, bits, work: [0; WORK] })
     }
 
-    /// One event.
+    /// One event: `L`, `R` and `M` are resolved first, a plain code is stepped with as it is. The work of a game fits, so a refused event has
+    /// changed nothing.
     pub fn step(&mut self, code: Code, pointer: Pointer) -> Result<Step, Refusal> {
         let (row, column) = match pointer {
             Pointer::Cell(row, column) => (row, column),
             Pointer::Off => (self.position.rows, self.position.columns),
         };
+        let code = match code {
+            Code::L | Code::R | Code::M => self.resolve(code, row, column)?,
+            plain => plain as u8,
+        };
+        self.step_plain(code, row, column)
+    }
+
+    /// The plain code of a button that changed; the middle flag has then flipped, where it is the middle one.
+    fn resolve(&mut self, code: Code, row: u8, column: u8) -> Result<u8, Refusal> {
+        // SAFETY: each pointer is to an array of this game, beside its length; all is only read.
+        let a = unsafe {
+            raw::lm_resolve(
+                self.position,
+                code as u8,
+                row,
+                column,
+                self.mines.as_ptr(),
+                self.mines.len(),
+                self.shown.as_ptr(),
+                self.shown.len(),
+                self.bits.as_ptr(),
+                self.bits.len(),
+            )
+        };
+        accepted(a.number.into(), [a.row, a.column])?;
+        self.position = a.position;
+        Ok(a.value as u8)
+    }
+
+    fn step_plain(&mut self, code: u8, row: u8, column: u8) -> Result<Step, Refusal> {
         // SAFETY: each pointer is to an array of this game, beside its length; `&mut self` says that nobody else has any of them.
         let a = unsafe {
             raw::lm_step(
                 self.position,
-                code as u8,
+                code,
                 row,
                 column,
                 self.mines.as_ptr(),
@@ -335,7 +378,7 @@ impl<const CELLS: usize, const BITS: usize, const WORK: usize> Game<CELLS, BITS,
     /// `View::open` before and after it tells how many cells the row opened.
     pub fn step_flow(&mut self, events: &[[u8; 3]]) -> Result<(), Refusal> {
         let events = events.as_flattened();
-        // SAFETY: as in `step`; the events are the caller's and only read.
+        // SAFETY: as in `step_plain`; the events are the caller's and only read.
         let a = unsafe {
             raw::lm_step_flow(
                 self.position,
@@ -356,7 +399,7 @@ impl<const CELLS: usize, const BITS: usize, const WORK: usize> Game<CELLS, BITS,
 
     /// The player gives up: Loss.
     pub fn give_up(&mut self) {
-        // SAFETY: as in `step`; all is only read.
+        // SAFETY: as in `step_plain`; all is only read.
         let a = unsafe {
             raw::lm_step_game_state(
                 self.position,
@@ -374,7 +417,7 @@ impl<const CELLS: usize, const BITS: usize, const WORK: usize> Game<CELLS, BITS,
 
     /// The same board anew.
     pub fn reset(&mut self) {
-        // SAFETY: as in `step`.
+        // SAFETY: as in `step_plain`.
         let a = unsafe {
             raw::lm_reset(
                 self.position,
@@ -423,7 +466,7 @@ impl<const CELLS: usize, const BITS: usize, const WORK: usize> Game<CELLS, BITS,
             GameState::Loss => false,
             _ => return None,
         };
-        // SAFETY: as in `step`.
+        // SAFETY: as in `step_plain`.
         let total = unsafe {
             raw::lm_total_3bv(
                 p.rows,
@@ -434,7 +477,7 @@ impl<const CELLS: usize, const BITS: usize, const WORK: usize> Game<CELLS, BITS,
                 self.work.len(),
             )
         };
-        // SAFETY: as in `step`.
+        // SAFETY: as in `step_plain`.
         let left = unsafe {
             raw::lm_left_to_solve(
                 p,

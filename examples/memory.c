@@ -54,7 +54,8 @@ static void flow(void)
 // Every other call, once.
 static void ask(void)
 {
-    lm_answer a = lm_step(position, LM_MR, 0, 0, LENT, WORK);
+    lm_answer a = lm_resolve(position, LM_M, 0, 0, LENT);
+    a = lm_step(a.position, LM_MR, 0, 0, LENT, WORK);
     a = lm_get_bbbv_solved(a.position, LENT);
     a = lm_left_to_solve(a.position, LENT, WORK);
     a = lm_step_game_state(a.position, LENT, 1);

@@ -1,5 +1,5 @@
-// The refusals 20 to 264 and 45 and their places from C: each case of the table has its faults, and is held to its number and its place.
-// The status is 1 if one is another.
+// The refusals 20 to 264 and 45 and their places from C: each case of the table has its faults, and is held to its number and its place. Then what
+// resolving and the plain step answer to `l`, `r` and `m`. The status is 1 if one is another.
 #include <stdio.h>
 #include <string.h>
 
@@ -11,6 +11,7 @@
 static int8_t mines[ROOM];
 static uint8_t shown[ROOM];
 static uint8_t bits[2];
+static uint16_t work[LM_WORK(ROOM, 1)];
 static size_t cells, bytes;
 static lm_position p;
 
@@ -51,16 +52,16 @@ static lm_value told(lm_answer a)
 static void position(const char *what, int number, int row, int column)
 {
     static const uint8_t no_events[1];
-    static uint16_t work[LM_WORK(ROOM, 1)];
     lm_position given = p;
     uint8_t shown_given[sizeof shown], bits_given[sizeof bits];
     memcpy(shown_given, shown, sizeof shown);
     memcpy(bits_given, bits, sizeof bits);
     hold("lm_check_position", what, lm_check_position(p, mines, cells, shown, cells, bits, bytes), number, row, column);
-    lm_answer a[5];
+    lm_answer a[6];
     size_t n = 0;
     a[n++] = lm_get_bbbv_solved(p, mines, cells, shown, cells, bits, bytes);
     if (number != 0) {
+        a[n++] = lm_resolve(p, LM_M, 0, 0, mines, cells, shown, cells, bits, bytes);
         a[n++] = lm_step(p, LM_MV, 0, 0, mines, cells, shown, cells, bits, bytes, work, LM_WORK(p.rows, p.columns));
         a[n++] = lm_step_flow(p, no_events, 0, mines, cells, shown, cells, bits, bytes, work, LM_WORK(p.rows, p.columns));
         a[n++] = lm_step_game_state(p, mines, cells, shown, cells, bits, bytes, 1);
@@ -99,6 +100,99 @@ static void board(const char *what, int number, int row, int column)
 static void none(const char *what, int number)
 {
     position(what, number, LM_NOWHERE, LM_NOWHERE);
+}
+
+static void same(const char *what, const char *of, unsigned long got, unsigned long wanted)
+{
+    cases++;
+    if (got != wanted) {
+        fprintf(stderr, "%s: %s %lu, not %lu\n", what, of, got, wanted);
+        wrong = 1;
+    }
+}
+
+// What resolving answers, with its value and the middle flag; nothing else of the position differs.
+static void resolves(const char *what, uint8_t code, uint8_t row, uint8_t column, int number, unsigned value, uint8_t middle)
+{
+    lm_answer a = lm_resolve(p, code, row, column, mines, cells, shown, cells, bits, bytes);
+    same(what, "resolved with", a.number, (unsigned)number);
+    same(what, "a place", a.row == LM_NOWHERE && a.column == LM_NOWHERE, 1);
+    same(what, "the value", a.value, value);
+    p.middle = middle;
+    same(what, "another position", memcmp(&a.position, &p, sizeof p) != 0, 0);
+    good();
+}
+
+// What the plain step answers; where it accepts, it counts one event, and nothing else of the position differs.
+static void steps(const char *what, uint8_t code, int number)
+{
+    lm_answer a = lm_step(p, code, 0, 0, mines, cells, shown, cells, bits, bytes, work, LM_WORK(3, 3));
+    same(what, "stepped with", a.number, (unsigned)number);
+    same(what, "the value", a.value, 0);
+    p.events += number == 0;
+    same(what, "another position", memcmp(&a.position, &p, sizeof p) != 0, 0);
+}
+
+static void resolving(void)
+{
+    resolves("l", LM_L, 0, 0, 0, LM_LC, 0);
+    p.mouse = LM_DOWN_UP;
+    resolves("l in DownUp", LM_L, 0, 0, 0, LM_LR, 0);
+    resolves("m", LM_M, 0, 0, 0, LM_MC, 1);
+    p.middle = 1;
+    resolves("m, the middle button down", LM_M, 0, 0, 0, LM_MR, 0);
+    p.game = LM_LOSS;
+    resolves("m in Loss", LM_M, 0, 0, 0, LM_MC, 1);
+    p.game = LM_LOSS;
+    p.middle = 1;
+    resolves("m in Loss, the middle button down", LM_M, 0, 0, 0, LM_MR, 0);
+    resolves("m at (0,3)", LM_M, 0, 3, LM_BAD_POINTER, 0, 0);
+    p.middle = 1;
+    resolves("m at (0,3), the middle button down", LM_M, 0, 3, LM_BAD_POINTER, 0, 1);
+    resolves("m at (3,3)", LM_M, 3, 3, 0, LM_MC, 1);
+    p.events = LM_EVENTS_MAX;
+    resolves("m after 65,535 events", LM_M, 0, 0, LM_TOO_MANY_EVENTS, 0, 0);
+    for (uint8_t rules = 1; rules <= 2; rules++) {
+        p.game = LM_PLAYING;
+        p.mouse = LM_UP_DOWN_NOT_FLAG;
+        p.right = p.events = 1;
+        p.rules = rules;
+        resolves("r in UpDownNotFlag by rules 1 and 2", LM_R, 0, 0, 0, rules == 1 ? LM_RC : LM_RR, 0);
+    }
+    for (unsigned code = 0; code <= 255; code++)
+        if (code < LM_L || code > LM_M) {
+            p.middle = 1;
+            resolves("a code that is not resolved", (uint8_t)code, 0, 0, 0, code, 1);
+        }
+}
+
+static void plain(void)
+{
+    for (uint8_t code = LM_L; code <= LM_M; code++) {
+        steps("l, r and m in Ready", code, LM_BAD_EVENT);
+        p.game = LM_PRE_FLAGING;
+        steps("l, r and m in PreFlaging", code, LM_BAD_EVENT);
+        p.game = LM_PLAYING;
+        steps("l, r and m in Playing", code, LM_BAD_EVENT);
+        p.game = LM_LOSS;
+        steps("l, r and m in Loss", code, 0);
+        p.game = LM_WIN;
+        p.middle = 1;
+        for (size_t i = 0; i < 8; i++)
+            shown[i] = (uint8_t)mines[i];
+        steps("l, r and m in Win", code, 0);
+        good();
+    }
+}
+
+// With too little work resolving accepts, and `m` flips; the step then answers 21 and gives that position back.
+static void little_work(void)
+{
+    lm_position flipped = lm_resolve(p, LM_M, 0, 0, mines, cells, shown, cells, bits, bytes).position;
+    lm_answer a = lm_step(flipped, LM_MC, 0, 0, mines, cells, shown, cells, bits, bytes, work, LM_WORK(3, 3) - 1);
+    same("m with little work", "stepped with", a.number, LM_BAD_LENGTH);
+    same("m with little work", "the middle flag", a.position.middle, 1);
+    same("m with little work", "another position", memcmp(&a.position, &flipped, sizeof flipped) != 0, 0);
 }
 
 int main(void)
@@ -199,6 +293,9 @@ int main(void)
     p.game = 9;
     none("rules 3 and game 9", LM_UNLAWFUL_STATE);
 
+    resolving();
+    plain();
+    little_work();
     printf("refusals: %u cases\n", cases);
     return wrong;
 }

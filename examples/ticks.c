@@ -1,8 +1,9 @@
-// The cells that events open, from C: each book of the table is played event by event, and the value of every step, a refused one too, is held to
-// the table and to the shown board before and after it. Then all its events in one call, counted as a caller of lm_step_flow counts them.
+// The cells that events open, from C: each book of the table is played event by event, resolved first, since a book may have `l`, `r` and `m`; and the
+// value of every step, a refused one too, is held to the table and to the shown board before and after it. Then all its events in one call, counted as a caller of lm_step_flow counts them.
 // The argument is the folder that the books stand in. The status is 1 if a number is another.
 #include <stdio.h>
 #include <stdlib.h>
+#include <string.h>
 
 #include "liftmanger.h"
 
@@ -86,7 +87,9 @@ static void play(const char *folder, const struct game *g)
 
         const uint8_t *e = book + b.events_at + 3 * (n - 1);
         unsigned before = open_cells(cells);
-        a = lm_step(p, e[0], e[1], e[2], mines, cells, shown, cells, bits, bytes, work, room);
+        a = lm_resolve(p, e[0], e[1], e[2], mines, cells, shown, cells, bits, bytes);
+        hold(g->book, n, "resolved", a.number, 0);
+        a = lm_step(a.position, (uint8_t)a.value, e[1], e[2], mines, cells, shown, cells, bits, bytes, work, room);
         p = a.position;
         hold(g->book, n, "opened, by the boards", open_cells(cells) - before, a.value);
         if (t->event == n) {
@@ -105,6 +108,7 @@ static void play(const char *folder, const struct game *g)
     unsigned before = open_cells(cells);
     lm_answer a = lm_step_flow(fresh, book + b.events_at, 3 * b.events, mines, cells, shown, cells, bits, bytes, work, room);
     hold(g->book, g->events, "the value of a row of events", a.value, 0);
+    hold(g->book, g->events, "a row that ends in another position", memcmp(&a.position, &p, sizeof p) != 0, 0);
     hold(g->book, g->events, "opened by the row", open_cells(cells) - before, g->together);
 }
 

@@ -74,7 +74,8 @@ enum lm_number {
     LM_BAD_POINTER = 30,     /* the pointer is neither a cell nor exactly (rows, columns) */
     LM_TOO_MANY_EVENTS = 31, /* 65,535 events were accepted */
     LM_BAD_PRE_FLAG = 32,    /* pf in Ready or PreFlaging, off the board or on a cell not showing 10 */
-    LM_BAD_EVENT = 33,       /* an event that the game state does not take, or an unknown code while the game runs */
+    LM_BAD_EVENT = 33,       /* an event that the game state does not take, or an unknown code while the game runs; LM_L, LM_R and LM_M are
+                                unknown to lm_step */
 
     /* Refusals of a book, at the place of the first fault; 20, 24, 25 and 45 are given too. */
     LM_BOOK_ENDS = 40,    /* the bytes end where more are due (place: the length) */
@@ -109,9 +110,10 @@ enum lm_event {
     LM_MR = 6, /* middle button up: a chord */
     LM_CC = 7, /* both buttons down */
     LM_PF = 8, /* a flag before the first opening */
-    LM_L = 9,  /* the left button changed */
-    LM_R = 10, /* the right button changed */
-    LM_M = 11  /* the middle button changed */
+    /* For lm_resolve, which makes a plain code out of each, and for the rows of events of lm_step_flow, which are resolved there. */
+    LM_L = 9,  /* the left button changed: LM_LC or LM_LR, by the mouse state */
+    LM_R = 10, /* the right button changed: LM_RC or LM_RR, by the mouse state and the rules */
+    LM_M = 11  /* the middle button changed: LM_MC or LM_MR, by the middle flag, which it flips */
 };
 
 /* 0 to 8 is an open cell with its number. */
@@ -145,8 +147,8 @@ typedef struct lm_position {
     uint32_t solved_chord; /* 3BV solved by chords; with solved_left it may pass the total */
 } lm_position;
 
-/* A number, its place, the position after the call, and the value: how many cells a step opened, or what was asked for; 0 where there is none or
- * the call was refused. */
+/* A number, its place, the position after the call, and the value: how many cells a step opened, the plain code of a resolved one, or what was
+ * asked for; 0 where there is none or the call was refused. */
 typedef struct lm_answer {
     uint16_t number;     /* enum lm_number */
     uint8_t row, column; /* the faulty cell beside 22 and 23, else LM_NOWHERE */
@@ -201,19 +203,31 @@ lm_answer lm_setup(uint8_t rows, uint8_t columns, uint8_t mode, uint8_t question
 lm_answer lm_reset(lm_position position, const int8_t *mines, size_t mines_length, uint8_t *shown, size_t shown_length, uint8_t *bits,
                    size_t bits_length);
 
-/* ---- a step, and a row of events ---- */
+/* ---- resolving, a step, and a row of events ---- */
 
-/* One event: a code of enum lm_event at a cell, or at (rows, columns) for off the board. 20 to 33, or an answer 0 to 4. After Win or Loss every
- * event at such a pointer, an unknown code too, is accepted and answers 0.
+/* LM_L, LM_R or LM_M into a plain code, which is the value, for lm_step: 20 to 264, 30, 31, or 0. It is lent no work, writes nothing and counts no
+ * event. LM_M flips the middle flag of the position that comes back, in every game state; any other code comes back as it came, an unknown one
+ * too, and the position with it. A refusal flips nothing.
+ * An event of a game with such buttons is the pair: lm_resolve, and where it answers 0, lm_step with its value at the position that came back, the
+ * same pointer and the same boards. Where the work fits, a refused pair has changed nothing. With too little work lm_resolve accepts, and may flip,
+ * and lm_step then answers 21: a caller who goes on from there keeps the position from before the pair.
+ * Both calls test the whole board; a row of events (lm_step_flow) pays for that once. */
+lm_answer lm_resolve(lm_position position, uint8_t code, uint8_t row, uint8_t column, const int8_t *mines, size_t mines_length,
+                     const uint8_t *shown, size_t shown_length, const uint8_t *bits, size_t bits_length);
+
+/* One plain event: a code LM_LC to LM_PF at a cell, or at (rows, columns) for off the board. 20 to 33, or an answer 0 to 4. LM_L, LM_R and LM_M are
+ * unknown codes here: 33 while the game runs. After Win or Loss every event at such a pointer, an unknown code too, is accepted, counted and
+ * answers 0, and flips nothing.
  * The value is how many cells the event opened, the buzzer's ticks: the cells that show 0 to 8 after the call less those before it, so not a mine
  * that was hit. The cells of the automatic passes are among them, so it may be above 0 beside LM_NOTHING (a pass after a chord that could not run)
  * and LM_FLAGGED; beside LM_HIT it is the safe cells of a lost chord, and 0 for a click. After Win or Loss, and beside a refusal, it is 0. */
 lm_answer lm_step(lm_position position, uint8_t code, uint8_t row, uint8_t column, const int8_t *mines, size_t mines_length, uint8_t *shown,
                   size_t shown_length, uint8_t *bits, size_t bits_length, uint16_t *work, size_t work_length);
 
-/* A row of events, three bytes each: code, row, column. 20 to 264 once, even for none; then the events, up to the first refused one, whose
- * number is answered; 0 where all were accepted. How many were is in position.events. The value is 0: a caller who wants to know how many cells
- * the row opened counts those of shown that are 0 to 8 before the call and after it, since shown is the caller's own; no open cell closes. */
+/* A row of events, three bytes each: code, row, column; LM_L, LM_R and LM_M are resolved, each in its turn. 20 to 264 once, even for none; then
+ * the events, up to the first refused one, whose number is answered; 0 where all were accepted. How many were is in position.events. The value is
+ * 0: a caller who wants to know how many cells the row opened counts those of shown that are 0 to 8 before the call and after it, since shown is
+ * the caller's own; no open cell closes. */
 lm_answer lm_step_flow(lm_position position, const uint8_t *events, size_t events_length, const int8_t *mines, size_t mines_length,
                        uint8_t *shown, size_t shown_length, uint8_t *bits, size_t bits_length, uint16_t *work, size_t work_length);
 

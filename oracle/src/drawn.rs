@@ -1,4 +1,4 @@
-// Lawful positions by chance, reachable or not, events for them, and ways to spoil them.
+// Lawful positions by chance, reachable or not, events for them and the calls that these go by, and ways to spoil them.
 
 use crate::board::numbered;
 use crate::game::*;
@@ -7,6 +7,7 @@ use crate::layout::Layout;
 use crate::player::{any_pointer, chordable, unknown_code, Record};
 use crate::position::{Lent, Position, GAME_STATES, MOUSE_STATES};
 use crate::random::Random;
+use crate::steps::Call;
 use original::{GameBoardState, MouseState};
 
 pub fn lawful(random: &mut Random) -> (Position, Lent) {
@@ -218,9 +219,30 @@ fn any_cell_with(random: &mut Random, game: &Game, wanted: impl Fn((usize, usize
     (!found.is_empty()).then(|| random.pick(&found))
 }
 
+/// The call that an event goes by, the pair most often; where it is another, the event is often `l`, `r` or `m`, which they part on.
+pub fn call(random: &mut Random, event: &mut Record) -> Call {
+    let call = match random.below(10) {
+        0 | 1 => Call::Resolve,
+        2 | 3 => Call::Plain,
+        _ => Call::Pair,
+    };
+    if call != Call::Pair && random.chance(30) {
+        event[0] = random.pick(&[L, R, M]);
+    }
+    call
+}
+
 /// How much work is lent: what a step takes, at times a little more.
 pub fn work(random: &mut Random, position: &Position) -> usize {
     work_room(position) + random.pick(&[0, 0, 1, 9])
+}
+
+/// Nothing but too little work: resolve, which is lent none, accepts, and for `m` it flips.
+pub fn starve(random: &mut Random, position: &Position, event: &mut Record, work: &mut usize) {
+    *work = random.below(work_room(position));
+    if random.chance(50) {
+        event[0] = M;
+    }
 }
 
 /// Changes one thing; what comes out may be unlawful in one way or several, or lawful still.

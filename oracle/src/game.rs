@@ -1,7 +1,8 @@
-// A game: the Rust's board with what document 01 adds around its step, the refusals and the count of events, and the league's rules.
+// A game: the Rust's board with what the papers add around its step, the refusals and the count of events, the league's rules, and the two calls
+// that the step is split into.
 
 use crate::board::{mode_allowed, numbered, rules_allowed, size_allowed};
-use original::{GameBoardState, MouseState, Original};
+use original::{GameBoardState, Hidden, MouseState, Original};
 
 pub const MOST_EVENTS: usize = 65_535;
 
@@ -19,6 +20,9 @@ pub const PF: u8 = 8;
 pub const L: u8 = 9;
 pub const R: u8 = 10;
 pub const M: u8 = 11;
+
+/// A code that no paper knows.
+const UNKNOWN: u8 = 12;
 
 #[derive(Clone, Copy, PartialEq)]
 pub struct Settings {
@@ -58,18 +62,57 @@ impl Game {
         Ok(Game { board, events: 0, rules })
     }
 
-    /// Tests 30 to 33. The Rust changes nothing before an Err, and `steps` holds it to that, so 33 needs no undoing.
+    /// An event of a game, `l`, `r` and `m` among them, as a book has it. The Rust resolves it.
     pub fn step(&mut self, code: u8, row: usize, column: usize) -> u16 {
-        if !self.on_board(row, column) && !self.off_board(row, column) {
-            return 30;
+        self.play(self.to_the_rust(code), row, column)
+    }
+
+    /// The plain step of Req 07: `l`, `r` and `m` are unknown codes.
+    pub fn step_plain(&mut self, code: u8, row: usize, column: usize) -> u16 {
+        self.play(if is_toggle(code) { UNKNOWN } else { code }, row, column)
+    }
+
+    /// The resolving call of Req 07: the plain code, or 30 or 31. It counts no event.
+    pub fn resolve(&mut self, code: u8, row: usize, column: usize) -> Result<u8, u16> {
+        if let Some(number) = self.refusal(row, column) {
+            return Err(number);
         }
-        if self.events == MOST_EVENTS {
-            return 31;
+        let (down, press, release) = match code {
+            L => (self.left_is_down(), LC, LR),
+            R => (self.right_is_down(), RC, RR),
+            M => (self.flip_middle(), MC, MR),
+            _ => return Ok(code),
+        };
+        Ok(if down { release } else { press })
+    }
+
+    /// `l` is a release in the mouse states 3 to 6.
+    fn left_is_down(&self) -> bool {
+        matches!(self.mouse_number(), 3..=6)
+    }
+
+    /// `r` is a release in the mouse states 1, 4 and 5, by rules 2 in 2 too.
+    fn right_is_down(&self) -> bool {
+        matches!(self.mouse_number(), 1 | 4 | 5) || self.released_by_rules_2()
+    }
+
+    /// Whether the middle button was down before it.
+    fn flip_middle(&mut self) -> bool {
+        let hidden = self.board.hidden();
+        let down = hidden.middle_hold;
+        self.board.set_hidden(Hidden { middle_hold: !down, ..hidden });
+        down
+    }
+
+    /// Tests 30 to 33. The Rust changes nothing before an Err, and `steps` holds it to that, so 33 needs no undoing.
+    fn play(&mut self, code: u8, row: usize, column: usize) -> u16 {
+        if let Some(number) = self.refusal(row, column) {
+            return number;
         }
         if code == PF && self.panics_at_pf(row, column) {
             return 32;
         }
-        match self.board.step(name(self.to_the_rust(code)), (row, column)) {
+        match self.board.step(name(code), (row, column)) {
             Ok(answer) => {
                 self.events += 1;
                 answer.into()
@@ -78,14 +121,25 @@ impl Game {
         }
     }
 
+    /// 30 and 31, which ask nothing of the code.
+    fn refusal(&self, row: usize, column: usize) -> Option<u16> {
+        if !self.on_board(row, column) && !self.off_board(row, column) {
+            return Some(30);
+        }
+        (self.events == MOST_EVENTS).then_some(31)
+    }
+
     /// Rules 2 are the league's and not the Rust's: where `r` is a release by them alone, the Rust is handed `rr`.
     fn to_the_rust(&self, code: u8) -> u8 {
-        let released = self.rules == 2 && code == R && self.board.mouse_state == MouseState::UpDownNotFlag;
-        if released {
+        if code == R && self.released_by_rules_2() {
             RR
         } else {
             code
         }
+    }
+
+    fn released_by_rules_2(&self) -> bool {
+        self.rules == 2 && self.board.mouse_state == MouseState::UpDownNotFlag
     }
 
     pub fn on_board(&self, row: usize, column: usize) -> bool {
@@ -118,6 +172,10 @@ impl Game {
     pub fn ended(&self) -> bool {
         matches!(self.state(), GameBoardState::Win | GameBoardState::Loss)
     }
+}
+
+fn is_toggle(code: u8) -> bool {
+    matches!(code, L | R | M)
 }
 
 /// The Rust's word for a code; all unknown codes are alike to it.

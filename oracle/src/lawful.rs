@@ -19,13 +19,13 @@ impl Refusal {
     }
 }
 
-/// `work` is how many numbers of work are lent.
-pub fn refusal(position: &Position, lent: &Lent, work: usize) -> Option<Refusal> {
+/// `work` is how many numbers of work are lent, None for a call that is lent no work.
+pub fn refusal(position: &Position, lent: &Lent, work: Option<usize>) -> Option<Refusal> {
     let (rows, columns) = (position.settings.rows, position.settings.columns);
     if !size_allowed(rows, columns) {
         return Some(Refusal::nowhere(20));
     }
-    if !boards_fit(position, lent) || work < work_room(position) {
+    if !boards_fit(position, lent) || work.is_some_and(|work| work < work_room(position)) {
         return Some(Refusal::nowhere(21));
     }
     let at = |number, cell: usize| Refusal { number, place: Some((cell / columns, cell % columns)) };

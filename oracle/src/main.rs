@@ -28,7 +28,7 @@ use steps::{Start, Step};
 
 const USAGE: &str = "usage:
   oracle play                        a book on standard input: its printout
-  oracle positions                   the P and Run positions of document 01
+  oracle positions                   the P and Run positions of document 01, and those of the requests
   oracle books SEED COUNT [KIND]     packed books: small, large, deep, damaged or mixed
   oracle answers [--sum]             packed books on standard input: their printouts, or their sums
   oracle pick NUMBER                 packed books on standard input: the one of this number, from 1

@@ -1,13 +1,13 @@
 // Many steps in one stream, packed as the head of `steps.rs` says.
 
 use crate::position::{Lent, Position};
-use crate::steps::Step;
+use crate::steps::{Call, Step};
 
 /// A position's first numbers have one byte each, the others four; the last, its rules, has one byte behind the event.
 const SHORT_NUMBERS: usize = 7;
 
-/// Between the rules and the lengths, for numbers to come: written 0 and not read.
-const RESERVED: usize = 17;
+/// Between the call and the lengths, for numbers to come: written 0 and not read.
+const RESERVED: usize = 16;
 
 pub fn pack(out: &mut Vec<u8>, step: &Step) {
     let Lent { mines, shown, bits } = &step.lent;
@@ -17,6 +17,7 @@ pub fn pack(out: &mut Vec<u8>, step: &Step) {
     }
     out.extend(step.event);
     put(out, rules, 1);
+    put(out, step.call.number(), 1);
     out.extend([0; RESERVED]);
     for length in [mines.len(), shown.len(), bits.len(), step.work] {
         put(out, length, 2);
@@ -53,11 +54,12 @@ fn first(rest: &mut &[u8]) -> Option<Step> {
     let event = bytes(rest, 3)?.try_into().ok()?;
     *rules = take(rest, 1)?;
     let position = Position::from_numbers(numbers)?;
+    let call = Call::of_number(take(rest, 1)?);
     bytes(rest, RESERVED)?;
     let [mines, shown, bits, work] = [take(rest, 2)?, take(rest, 2)?, take(rest, 2)?, take(rest, 2)?];
     let mines = bytes(rest, mines)?.iter().map(|&byte| byte as i8).collect();
     let lent = Lent { mines, shown: bytes(rest, shown)?.to_vec(), bits: bytes(rest, bits)?.to_vec() };
-    Some(Step { position, event, lent, work })
+    Some(Step { position, event, call, lent, work })
 }
 
 /// The next number, of so many bytes.

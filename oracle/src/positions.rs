@@ -1,8 +1,10 @@
-// The P and Run positions of document 01, and the league's rules of document 02, played on the Rust; each holds what was seen beside what the paper
-// tells.
+// The P and Run positions of document 01, and of document 02 the league's rules and the split step, played on the Rust; each holds what was seen
+// beside what the paper tells.
 
 use crate::game::*;
+use crate::position::{GAME_STATES, MOUSE_STATES};
 use crate::printout::{printout, spaced};
+use original::{GameBoardState, Hidden, MouseState};
 use std::panic::{catch_unwind, set_hook, take_hook};
 
 struct Told {
@@ -55,6 +57,14 @@ fn positions() -> Vec<Told> {
         r_by_rules(),
         r_by_rules_before_play(),
         setup_by_rules(),
+        resolve_l(),
+        resolve_m(),
+        resolve_m_at_pointers(),
+        resolve_m_after_the_last_event(),
+        resolve_r_by_rules(),
+        resolve_unknown_code(),
+        plain_step_of_toggles(),
+        pair_is_the_rust(),
     ]
 }
 
@@ -260,7 +270,11 @@ fn faults_of_five_settings() -> Told {
         (&[4, 1, 3, 0, 1, 3, 0], "24 at 5"),
     ];
     let seen = books.map(|(book, _)| printout(book)).concat();
-    position("Req 06: the faults of five settings bytes", seen, books.map(|(_, told)| format!("refused {told}\n")).concat())
+    position(
+        "Req 06: the faults of five settings bytes",
+        seen,
+        books.map(|(_, told)| format!("refused {told}\n")).concat(),
+    )
 }
 
 /// The answer and the states of the last of these events, by rules 1 and by rules 2.
@@ -291,6 +305,109 @@ fn setup_by_rules() -> Told {
         Game::setup(settings, &[(0, 0)]).err().unwrap_or(0)
     };
     position("Req 06: setup by rules 3, mode 6 and mode 0", format!("{} {}", answer(6), answer(0)), "25 45")
+}
+
+/// 3 × 3, mine (2,2), every cell closed; a NotFlag state has a right click behind it.
+fn closed(game: GameBoardState, mouse: MouseState, middle: bool, rules: u8) -> Game {
+    let settings = Settings { rows: 3, columns: 3, mode: 0, question: false, rules };
+    let mut closed = Game::setup(settings, &[(2, 2)]).expect("a lawful setup");
+    closed.board.game_board_state = game;
+    closed.board.mouse_state = mouse;
+    closed.events = usize::from(matches!(mouse, MouseState::UpDownNotFlag | MouseState::ChordingNotFlag));
+    closed.board.right = closed.events;
+    closed.board.set_hidden(Hidden { middle_hold: middle, ..closed.board.hidden() });
+    closed
+}
+
+fn fresh() -> Game {
+    closed(GameBoardState::Ready, MouseState::UpUp, false, 1)
+}
+
+/// The number, the value and the middle flag that resolve leaves.
+fn resolving(mut game: Game, code: u8, row: usize, column: usize) -> String {
+    let (number, value) = match game.resolve(code, row, column) {
+        Ok(plain) => (0, plain),
+        Err(number) => (number, 0),
+    };
+    format!("{number} {value} {}", u8::from(game.board.hidden().middle_hold))
+}
+
+fn resolve_l() -> Told {
+    let seen = [MouseState::UpUp, MouseState::DownUp]
+        .map(|mouse| resolving(closed(GameBoardState::Ready, mouse, false, 1), L, 0, 0));
+    position("Req 07: 3x3, mine (2,2), fresh; resolve l (0,0), in DownUp too", seen.join(", "), "0 0 0, 0 1 0")
+}
+
+fn resolve_m() -> Told {
+    let seen = [GameBoardState::Ready, GameBoardState::Loss].map(|game| {
+        [false, true].map(|middle| resolving(closed(game, MouseState::UpUp, middle, 1), M, 0, 0)).join(", ")
+    });
+    position("Req 07: resolve m (0,0), middle 0 and 1, in Loss too", seen.join("; "), "0 5 1, 0 6 0; 0 5 1, 0 6 0")
+}
+
+fn resolve_m_at_pointers() -> Told {
+    let seen = [(0, 3), (3, 3)].map(|(row, column)| resolving(fresh(), M, row, column));
+    position("Req 07: resolve m (0,3) and (3,3)", seen.join(", "), "30 0 0, 0 5 1")
+}
+
+fn resolve_m_after_the_last_event() -> Told {
+    let seen = [MOST_EVENTS - 1, MOST_EVENTS].map(|events| resolving(Game { events, ..fresh() }, M, 0, 0));
+    position("Req 07: resolve m (0,0) after 65,534 events and after 65,535", seen.join(", "), "0 5 1, 31 0 0")
+}
+
+fn resolve_r_by_rules() -> Told {
+    let seen = [1, 2]
+        .map(|rules| resolving(closed(GameBoardState::Playing, MouseState::UpDownNotFlag, false, rules), R, 0, 0));
+    position("Req 07: resolve r (0,0) in UpDownNotFlag, by rules 1 and 2", seen.join(", "), "0 2 0, 0 3 0")
+}
+
+fn resolve_unknown_code() -> Told {
+    position("Req 07: resolve code 200 (0,0)", resolving(fresh(), 200, 0, 0), "0 200 0")
+}
+
+/// Ready, Playing, Win, Loss, PreFlaging; the answer, the middle flag and the events after it.
+fn plain_step_of_toggles() -> Told {
+    let seen = [L, R, M].map(|code| {
+        GAME_STATES
+            .map(|state| {
+                let mut game = closed(state, MouseState::UpUp, false, 1);
+                let answer = game.step_plain(code, 0, 0);
+                format!("{answer} {} {}", u8::from(game.board.hidden().middle_hold), game.events)
+            })
+            .join(", ")
+    });
+    position(
+        "Req 07: the plain step with 9, 10 and 11",
+        seen.join("; "),
+        ["33 0 0, 33 0 0, 0 0 1, 0 0 1, 33 0 0"; 3].join("; "),
+    )
+}
+
+/// Every code in every state: where resolve and the plain step one after the other leave something else than the Rust's own step.
+fn pair_is_the_rust() -> Told {
+    let mut differ = Vec::new();
+    for code in 0..=CODES.len() as u8 {
+        for (state, mouse) in GAME_STATES.iter().flat_map(|&state| MOUSE_STATES.map(|mouse| (state, mouse))) {
+            for (middle, rules) in [(false, 1), (false, 2), (true, 1), (true, 2)] {
+                for (row, column) in [(0, 0), (2, 2), (3, 3), (0, 3)] {
+                    let mut whole = closed(state, mouse, middle, rules);
+                    let mut split = whole.clone();
+                    let answer = whole.step(code, row, column);
+                    let answers = split
+                        .resolve(code, row, column)
+                        .map_or_else(|number| number, |plain| split.step_plain(plain, row, column));
+                    if answer != answers || whole.position() != split.position() || whole.lent() != split.lent() {
+                        differ.push(format!("{} {state:?} {mouse:?} {middle} {rules} ({row},{column})", name(code)));
+                    }
+                }
+            }
+        }
+    }
+    position(
+        "Req 07: resolve and the plain step are the Rust's step, for every code in every state",
+        differ.join("; "),
+        "",
+    )
 }
 
 fn new(rows: usize, columns: usize, mode: u16, mines: &[(usize, usize)]) -> Game {

@@ -1,11 +1,12 @@
-// Single steps of the Rust. A step is a position, an event and what is lent; packed (`packed_steps.rs`), it is
+// Single steps of the Rust. A step is a position, an event, the call that it goes by, and what is lent; packed (`packed_steps.rs`), it is
 //
 //   position   rows columns mode question game mouse middle                   7 numbers of one byte
 //              preflag events left right double lce rce dce flag
 //              solved_left solved_chord                                       11 numbers of four bytes
 //   event      code row column                                                3 numbers of one byte
 //   position   rules                                                          1 number of one byte
-//   reserved   0, not read                                                    17 bytes
+//   call       0 the pair, 1 resolve alone, 2 the plain step alone            1 number of one byte; any other is taken as 0
+//   reserved   0, not read                                                    16 bytes
 //   lengths    of the mine board, the shown board, the bits and the work      4 numbers of two bytes
 //   mines      the mine board, 255 for a mine                                 its length in bytes
 //   shown      the shown board                                                its length in bytes
@@ -16,16 +17,20 @@
 //
 //   answer     0 to 4, or the refusal                                         1 number
 //   place      row and column of the faulty cell, or 255 255                  2 numbers
-//   opened     cells that show 0 to 8 after the step and did not before       1 number
+//   value      cells that show 0 to 8 after the step and did not before;
+//              of resolve alone the plain code, 0 beside a refusal            1 number
 //   position   after the step, as above, the rules last                       19 numbers
 //   shown      after the step                                                 as many as were lent
 //   bits       after the step                                                 as many as were lent
 //
 // and a whole line has the numbers of the step itself in front, in the order that it is packed.
+//
+// The pair is resolve and, where that answers 0, the plain step with the plain code at the position that came back; where resolve refuses, the line is
+// its answer. Resolve is lent no work.
 
 use crate::drawn;
 use crate::game::Game;
-use crate::lawful::refusal;
+use crate::lawful::{refusal, work_room, Refusal};
 use crate::player::Record;
 use crate::position::{Lent, Position};
 use crate::printout::spaced;
@@ -48,19 +53,46 @@ impl Start {
     }
 }
 
+#[derive(Clone, Copy, PartialEq)]
+pub enum Call {
+    Pair,
+    Resolve,
+    Plain,
+}
+
+impl Call {
+    pub fn number(self) -> usize {
+        match self {
+            Call::Pair => 0,
+            Call::Resolve => 1,
+            Call::Plain => 2,
+        }
+    }
+
+    pub fn of_number(number: usize) -> Call {
+        match number {
+            1 => Call::Resolve,
+            2 => Call::Plain,
+            _ => Call::Pair,
+        }
+    }
+}
+
 pub struct Step {
     pub position: Position,
     pub event: Record,
+    pub call: Call,
     pub lent: Lent,
     /// how many numbers of work are lent
     pub work: usize,
 }
 
 /// What a step leaves.
+#[derive(PartialEq)]
 struct Outcome {
     answer: u16,
     place: Option<(usize, usize)>,
-    opened: usize,
+    value: usize,
     position: Position,
     lent: Lent,
 }
@@ -69,17 +101,22 @@ struct Outcome {
 pub fn step(seed: u64, number: u64, start: Start) -> Result<Step, String> {
     let random = &mut Random::new(seed, number);
     let (mut position, mut lent) = drawn::lawful(random);
-    let event = drawn::event(random, &Game::from_position(&position, &lent));
+    let mut event = drawn::event(random, &Game::from_position(&position, &lent));
     let mut work = drawn::work(random, &position);
-    if start == Start::Spoiled {
+    let call = drawn::call(random, &mut event);
+    if start == Start::Lawful {
+        if refusal(&position, &lent, Some(work)).is_some() {
+            return Err(format!("step {}: the drawn position is not lawful", number + 1));
+        }
+    } else if random.chance(8) {
+        drawn::starve(random, &position, &mut event, &mut work);
+    } else {
         for _ in 0..random.between(1, 2) {
             drawn::spoil(random, &mut position, &mut lent);
         }
         drawn::spoil_ground(random, &mut position, &mut lent, &mut work);
-    } else if refusal(&position, &lent, work).is_some() {
-        return Err(format!("step {}: the drawn position is not lawful", number + 1));
     }
-    Ok(Step { position, event, lent, work })
+    Ok(Step { position, event, call, lent, work })
 }
 
 impl Step {
@@ -103,29 +140,73 @@ impl Step {
     }
 
     fn played(&self) -> Outcome {
-        let Step { position, lent, work, .. } = self;
-        if let Some(refusal) = refusal(position, lent, *work) {
-            let (position, lent) = (position.clone(), lent.clone());
-            return Outcome { answer: refusal.number, place: refusal.place, opened: 0, position, lent };
+        match self.call {
+            Call::Pair => self.paired(),
+            Call::Resolve => self.resolved(),
+            Call::Plain => self.stepped(Game::step_plain),
         }
-        let mut game = Game::from_position(position, lent);
+    }
+
+    fn paired(&self) -> Outcome {
+        let resolved = self.resolved();
+        if resolved.answer != 0 {
+            return resolved;
+        }
+        let [_, row, column] = self.event;
+        let event = [resolved.value as u8, row, column];
+        Step { position: resolved.position, event, call: Call::Plain, lent: resolved.lent, work: self.work }.played()
+    }
+
+    fn resolved(&self) -> Outcome {
+        if let Some(refusal) = refusal(&self.position, &self.lent, None) {
+            return self.refused(refusal);
+        }
+        let mut game = Game::from_position(&self.position, &self.lent);
         let [code, row, column] = self.event;
-        let answer = game.step(code, row.into(), column.into());
+        let (answer, value) = match game.resolve(code, row.into(), column.into()) {
+            Ok(plain) => (0, plain.into()),
+            Err(number) => (number, 0),
+        };
+        Outcome { answer, place: None, value, position: game.position(), lent: game.lent() }
+    }
+
+    /// By a step that resolves, the Rust's own, or by one that does not.
+    fn stepped(&self, step: fn(&mut Game, u8, usize, usize) -> u16) -> Outcome {
+        if let Some(refusal) = refusal(&self.position, &self.lent, Some(self.work)) {
+            return self.refused(refusal);
+        }
+        let mut game = Game::from_position(&self.position, &self.lent);
+        let [code, row, column] = self.event;
+        let answer = step(&mut game, code, row.into(), column.into());
         let after = game.lent();
-        let opened = opened(&lent.shown, &after.shown);
-        Outcome { answer, place: None, opened, position: game.position(), lent: after }
+        let value = opened(&self.lent.shown, &after.shown);
+        Outcome { answer, place: None, value, position: game.position(), lent: after }
+    }
+
+    fn refused(&self, refusal: Refusal) -> Outcome {
+        let (position, lent) = (self.position.clone(), self.lent.clone());
+        Outcome { answer: refusal.number, place: refusal.place, value: 0, position, lent }
     }
 
     fn broken_promise(&self, after: &Outcome) -> Option<&'static str> {
-        let unchanged = self.position == after.position && self.lent == after.lent;
-        if after.answer >= 20 && !unchanged {
-            return Some("a refused step changed something");
+        let refused = after.answer >= 20;
+        let fits = self.work >= work_room(&self.position);
+        let flipped = self.position.middle != after.position.middle;
+        let but_for_middle = Position { middle: self.position.middle, ..after.position.clone() };
+        if (refused || self.call == Call::Resolve) && (but_for_middle != self.position || after.lent != self.lent) {
+            return Some("a refused call, or resolve, changed more than the middle flag");
         }
-        if after.answer < 20 && refusal(&after.position, &after.lent, self.work).is_some() {
-            return Some("an accepted step left the lawful positions");
+        if refused && flipped && (fits || self.call != Call::Pair) {
+            return Some("a refused call flipped the middle flag, and it was no pair with too little work");
         }
-        if open(&self.lent.shown) + after.opened != open(&after.lent.shown) {
+        if !refused && refusal(&after.position, &after.lent, None).is_some() {
+            return Some("an accepted call left the lawful positions");
+        }
+        if self.call != Call::Resolve && open(&self.lent.shown) + after.value != open(&after.lent.shown) {
             return Some("what a step opened is not the open cells after less those before");
+        }
+        if self.call == Call::Pair && fits && *after != self.stepped(Game::step) {
+            return Some("resolve and the plain step are not the Rust's own step");
         }
         None
     }
@@ -135,7 +216,7 @@ impl Step {
         let [before @ .., rules] = self.position.numbers();
         let mut numbers = before.to_vec();
         extend(&mut numbers, &self.event);
-        numbers.extend([rules, mines.len(), shown.len(), bits.len(), self.work]);
+        numbers.extend([rules, self.call.number(), mines.len(), shown.len(), bits.len(), self.work]);
         numbers.extend(mines.iter().map(|&cell| usize::from(cell as u8)));
         extend(&mut numbers, shown);
         extend(&mut numbers, bits);
@@ -146,7 +227,7 @@ impl Step {
 impl Outcome {
     fn numbers(&self) -> Vec<usize> {
         let (row, column) = self.place.unwrap_or((255, 255));
-        let mut numbers = vec![self.answer.into(), row, column, self.opened];
+        let mut numbers = vec![self.answer.into(), row, column, self.value];
         numbers.extend(self.position.numbers());
         extend(&mut numbers, &self.lent.shown);
         extend(&mut numbers, &self.lent.bits);

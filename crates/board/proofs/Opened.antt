@@ -9,7 +9,7 @@ use lib.IntN.{ℤ}
 use Rattle.rules.specs.declared.Position.{Position}
 use Rattle.rules.specs.declared.Answer.{Answer}
 use Rattle.rules.specs.Clicks.{Desk, desk}
-use Rattle.rules.specs.Step.{stepOn}
+use Rattle.rules.specs.Step.{plainCode, plainOn}
 use Rattle.rules.specs.Calls.{Outcome, lentRefusal, refused, refusedAt, accepted, openedIn, played, stepOf}
 use Rattle.rules.specs.Promises.{StepIs}
 use Rattle.cells.specs.Contracts.{openIn}
@@ -27,7 +27,7 @@ Summed d o = Sum (d .shown) (o .answer) (o .shown)
 step-sum : (B : List ℤ) (code r c : ℕ) (d : Desk) (work : List ℕ) → Summed d (stepOf B code r c d work)
 unfolding stepOf
 step-sum B code r c d work =
-    let o = stepOn B code r c d in
+    let o = plainOn B code r c d in
     let n = openedIn (d .shown) (o .desk .shown) in
     pick-both (Summed d) (eqb (lentRefusal B d work) 0) (played (d .shown) o work) (refusedAt B (lentRefusal B d work) d work)
     (λ e.
@@ -36,7 +36,7 @@ step-sum B code r c d work =
     (λ f.
     let l = leb-false 20 (o .answer) f in
     let v = lent-lawful B d work (eqb-true (lentRefusal B d work) 0 e) .kept .sound .ground .mined .valued in
-    let m = step-opens B v code r c d in
+    let m = step-opens B v (plainCode code) r c d in
     record { accepted = λ h. omega arith; refused = λ h. absurd (omega arith) }))
     (λ _. record { accepted = λ h. omega arith; refused = λ h. refl })
 

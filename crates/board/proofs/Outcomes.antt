@@ -23,8 +23,8 @@ use Rattle.rules.specs.Board.{faultOf, numberingRefusal}
 use Rattle.rules.specs.Lent.{workAfter}
 use Rattle.rules.specs.Judging.{leftToSolve}
 use Rattle.rules.specs.Clicks.{Desk, Play, desk, done}
-use Rattle.rules.specs.Step.{eventRefusal, plainOf, refusalAt, playAt, stepAt, stepBy, stepOn, pointerOf}
-use Rattle.rules.specs.Calls.{Outcome, outcome, SetUp, Totalled, Asked, Numbered, cellsIn, answers, refuses, checks, setUp, refused, refusedAt, accepted, openedIn, played, setupBy, setupRefusal, setupOf, resetOf, totalRefusal, totalOf, numberingOf, positionCheck, lentRefusal, flowRefusal, stepOf, flowOf, gameStateOf, bbbvSolvedOf, leftToSolveOf}
+use Rattle.rules.specs.Step.{eventRefusal, plainOf, refusalAt, playAt, stepAt, stepBy, stepOn, pointerOf, plainCode, plainOn}
+use Rattle.rules.specs.Calls.{Outcome, outcome, SetUp, Totalled, Asked, Numbered, cellsIn, answers, refuses, checks, setUp, refused, refusedAt, accepted, openedIn, played, setupBy, setupRefusal, setupOf, resetOf, totalRefusal, totalOf, numberingOf, positionCheck, lentRefusal, flowRefusal, resolveOf, stepOf, flowOf, gameStateOf, bbbvSolvedOf, leftToSolveOf}
 use Rattle.cells.proofs.Words.{one}
 use Rattle.boards.proofs.Faults.{place-none}
 use Rattle.game.proofs.Answers.{play-answers, refusal-refuses, refused-from}
@@ -105,6 +105,10 @@ unfolding resetOf setupBy
 reset-refused B d h = simp (ne-eqb _ _ h)
 
 module _ (B : List ℤ) (d : Desk) (h : positionCheck B d ≡ 0 → ⊥) where
+  pub resolve-refused : (code r c : ℕ) → resolveOf B code r c d ≡ refuses B (d .position) (positionCheck B d)
+  unfolding resolveOf
+  resolve-refused code r c = simp (ne-eqb _ _ h)
+
   pub step-game-state-refused : (event : ℕ) → gameStateOf B event d ≡ refuses B (d .position) (positionCheck B d)
   unfolding gameStateOf
   step-game-state-refused event = simp (ne-eqb _ _ h)
@@ -169,14 +173,14 @@ unfolding stepOf
 step-whole B code r c d work = at (eqb (lentRefusal B d work) 0)
   where
     o : Play
-    o = stepOn B code r c d
+    o = plainOn B code r c d
 
     out : Bool → Outcome
     out b = pick b (refused (o .answer) (o .desk) work) (accepted (o .answer) (openedIn (d .shown) (o .desk .shown)) (o .desk) work)
 
     by : (b : Bool) → leb 20 (o .answer) ≡ b → 20 ≤ out b .answer .number → out b ≡ refusedAt B (out b .answer .number) d work
     by true e h =
-        ap (λ (e : Desk). refused (o .answer) e work) (event-back B code r c d (leb-true _ _ e)) ∙ far B (o .answer) d work (event-far B code r c d (leb-true _ _ e))
+        ap (λ (e : Desk). refused (o .answer) e work) (event-back B (plainCode code) r c d (leb-true _ _ e)) ∙ far B (o .answer) d work (event-far B (plainCode code) r c d (leb-true _ _ e))
     by false e h = absurd (false≢true (sym e ∙ le-leb _ _ h))
 
     at : (b : Bool) → 20 ≤ pick b (played (d .shown) o work) (refusedAt B (lentRefusal B d work) d work) .answer .number

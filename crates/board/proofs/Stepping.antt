@@ -14,7 +14,7 @@ use Rattle.rules.specs.declared.Event.{Event}
 use Rattle.rules.specs.Words.{unless}
 use Rattle.rules.specs.Lent.{workRoom, workAfter}
 use Rattle.rules.specs.Clicks.{Desk, Play, desk, done}
-use Rattle.rules.specs.Step.{eventRefusal, stepOn}
+use Rattle.rules.specs.Step.{eventRefusal, plainCode, plainOn}
 use Rattle.rules.specs.Calls.{answers, refuses, outcome, cellsIn, openedIn, lentRefusal, stepOf}
 use Rattle.cells.specs.Contracts.{Ticked}
 use Rattle.keep.specs.Kept.{LawfulAt}
@@ -33,13 +33,13 @@ module _ (B : List ℤ) (code r c : ℕ) (p : Position) (shown bits work : List 
   step-unfit a z h = rw (← e, ne-eqb n 0 z, h)
 
   -- refused by 30 to 33
-  pub step-heard : (k : ℕ) (a : Answer) → n ≡ 0 → done k (desk p shown bits) ≡ stepOn B code r c (desk p shown bits) → 20 ≤ k → a ≡ answers k p 0
+  pub step-heard : (k : ℕ) (a : Answer) → n ≡ 0 → done k (desk p shown bits) ≡ plainOn B code r c (desk p shown bits) → 20 ≤ k → a ≡ answers k p 0
       → outcome a shown bits work ≡ stepOf B code r c (desk p shown bits) work
   unfolding stepOf
   step-heard k a z s l h = rw (← e, eq-eqb n 0 z, ← s, le-leb 20 k l, h)
 
   -- played
-  pub step-done : (m v : ℕ) (q : Position) (a : Answer) (shown′ bits′ work′ : List ℕ) → n ≡ 0 → done m (desk q shown′ bits′) ≡ stepOn B code r c (desk p shown bits) → m < 20
+  pub step-done : (m v : ℕ) (q : Position) (a : Answer) (shown′ bits′ work′ : List ℕ) → n ≡ 0 → done m (desk q shown′ bits′) ≡ plainOn B code r c (desk p shown bits) → m < 20
       → work′ ≡ workAfter (cellsIn (p .settings)) work → q .settings ≡ p .settings → Ticked 0 shown v shown′ → a ≡ answers m q v
       → outcome a shown′ bits′ work′ ≡ stepOf B code r c (desk p shown bits) work
   unfolding stepOf
@@ -48,8 +48,8 @@ module _ (B : List ℤ) (code r c : ℕ) (p : Position) (shown bits work : List 
       rw (← e, eq-eqb n 0 z, ← s, lt-leb 20 m l, h, w, g, k)
 
 pub settings-kept : (B : List ℤ) (code r c : ℕ) (p q : Position) (shown bits shown′ bits′ : List ℕ) (m : ℕ) → LawfulAt B (desk p shown bits)
-    → done m (desk q shown′ bits′) ≡ stepOn B code r c (desk p shown bits) → q .settings ≡ p .settings
-settings-kept B code r c p q shown bits shown′ bits′ m l h = ap (λ (o : Play). o .desk .position .settings) h ∙ step-follows B code r c (desk p shown bits) l .settings
+    → done m (desk q shown′ bits′) ≡ plainOn B code r c (desk p shown bits) → q .settings ≡ p .settings
+settings-kept B code r c p q shown bits shown′ bits′ m l h = ap (λ (o : Play). o .desk .position .settings) h ∙ step-follows B (plainCode code) r c (desk p shown bits) l .settings
 
 pub played-small : (B : List ℤ) (e : Event) (d f : Desk) (m : ℕ) → done m f ≡ playEvent B e d → m < 20
 played-small B e d f m h = let a = event-answers B e d .small in let b : m ≡ playEvent B e d .answer = ap (λ (o : Play). o .answer) h in omega arith

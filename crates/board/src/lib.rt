@@ -1,4 +1,4 @@
-// THE PUBLIC FACE: what `calls` offers, and here one event and a row of events. No public function has a `requires`: for every input its
+// THE PUBLIC FACE: what `calls` and `resolving` offer, and here one plain event and a row of events. No public function has a `requires`: for every input its
 // contract, one equation of rules' Promises, determines the answer, the position, the value and every lent list.
 ghost use mathlib.Core.Path.{_≡_};
 ghost use mathlib.Core.List.{List};
@@ -20,6 +20,7 @@ pub use calls::reset;
 pub use calls::setup;
 pub use calls::step_game_state;
 pub use calls::total_3bv;
+pub use resolving::resolve;
 use rules::Answer;
 use rules::Decoded;
 use rules::Position;
@@ -34,7 +35,7 @@ fn blank(s: Settings, work: &mut [u16])
     cells::clear(&mut *work, 8 * cells + 8);
 }
 
-// A step tests all, 20 to 33.
+// A step tests all, 20 to 33, and plays plain events only: l, r and m are resolved before, or they are unknown.
 pub fn step(
     p: Position,
     code: u8,
@@ -55,15 +56,13 @@ pub fn step(
     let Decoded::At(x) = mouse::decode(s, row, column) else {
         return calls::answer(30, p, 0);
     };
-    let h = mouse::resolve_at(p, code, x);
-    let e = h.event;
+    let e = mouse::plain_event(code, x);
     let k = faults::refusal_of(p, &*shown, e);
     if k != 0 {
         return calls::answer(k, p, 0);
     }
     blank(s, &mut *work);
-    let q = p.with_middle(h.middle);
-    let o = game::play_event(q, e, mines, &mut *shown, &mut *bits, &mut *work);
+    let o = game::play_event(p, e, mines, &mut *shown, &mut *bits, &mut *work);
     let z = o.position;
     calls::answer(o.answer, z, o.opened)
 }

@@ -13,11 +13,12 @@ use Rattle.rules.specs.Board.{faultOf}
 use Rattle.rules.specs.Clicks.{Desk, desk}
 use Rattle.rules.specs.Calls.{Outcome, setUp, answers, refuses, refusedAt, freshDesk, boardsFit, workFits, lentRefusal, flowRefusal, setupRefusal, setupBy, resetOf, stepOf, flowOf, leftToSolveOf}
 use Rattle.refusals.specs.Rows.{first}
+use Rattle.board.proofs.Pair.{resolve-gives-back}
 use Rattle.board.proofs.Outcomes.{setup-refused, flow-refused, step-gives-back, step-game-state-gives-back, bbbv-solved-gives-back, left-to-solve-gives-back}
 use Rattle.flats.specs.declared.FlatPosition.{FlatPosition}
 use Rattle.flats.specs.declared.FlatAnswer.{FlatAnswer}
 use Rattle.flats.specs.Flat.{means, unclear, settingsOf, settingsIn, positionIn, flatOf, gives, flatAnswer}
-use Rattle.console.specs.Promises.{Leaves, leaves, refusesFlat, flatOutcome, flatAsked, resetOr, flatSetUp, setupFlat, resetFlat, stepFlat, flowFlat, gameStateFlat, bbbvSolvedFlat, leftFlat}
+use Rattle.console.specs.Promises.{Leaves, leaves, refusesFlat, flatOutcome, flatAsked, resetOr, flatSetUp, setupFlat, resetFlat, resolveFlat, stepFlat, flowFlat, gameStateFlat, bbbvSolvedFlat, leftFlat}
 use Rattle.flats.proofs.Bytes.{flat-back}
 use Rattle.console.proofs.Places.{flatRows, flat-rows}
 
@@ -99,6 +100,11 @@ module _ (B : List ℤ) (f : FlatPosition) (shown bits : List ℕ) where
           let e = left-to-solve-gives-back (positionIn f) B shown bits work _ _ refl h in
           ap flatAsked e ∙ ap (λ (t : FlatAnswer). leaves t (work ∷ [])) (refuses-back B f m (leftToSolveOf B d work .answer .number))
       go false m h = refl
+
+  pub resolve-back : (code r c : ℕ) → (resolveFlat B code r c f shown bits .number ≡ 0 → ⊥)
+      → resolveFlat B code r c f shown bits ≡ refusesFlat B f (resolveFlat B code r c f shown bits .number)
+  unfolding resolveFlat
+  resolve-back code r c = answer-refused B f _ _ (resolve-gives-back (positionIn f) code r c B shown bits _ refl)
 
   pub state-back : (event : ℕ) → (gameStateFlat B event f shown bits .number ≡ 0 → ⊥)
       → gameStateFlat B event f shown bits ≡ refusesFlat B f (gameStateFlat B event f shown bits .number)

@@ -15,15 +15,15 @@ use Rattle.rules.specs.declared.Value.{Value}
 use Rattle.rules.specs.Words.{pick}
 use Rattle.rules.specs.Board.{faultOf}
 use Rattle.rules.specs.Clicks.{Desk, desk}
-use Rattle.rules.specs.Calls.{Outcome, SetUp, Asked, outcome, setUp, refuses, checks, boardsFit, workFits, positionRefusal, positionCheck, positionCheckOf, lentRefusal, flowRefusal, setupOf, resetOf, stepOf, flowOf, gameStateOf, bbbvSolvedOf, leftToSolveOf, totalOf}
+use Rattle.rules.specs.Calls.{Outcome, SetUp, Asked, outcome, setUp, refuses, checks, boardsFit, workFits, positionRefusal, positionCheck, positionCheckOf, lentRefusal, flowRefusal, setupOf, resetOf, resolveOf, stepOf, flowOf, gameStateOf, bbbvSolvedOf, leftToSolveOf, totalOf}
 use Rattle.rules.specs.Promises.{asks, totals}
-use Rattle.board.proofs.Outcomes.{step-refused, flow-refused, left-to-solve-refused, step-game-state-refused, bbbv-solved-refused}
+use Rattle.board.proofs.Outcomes.{resolve-refused, step-refused, flow-refused, left-to-solve-refused, step-game-state-refused, bbbv-solved-refused}
 use Rattle.flats.specs.declared.FlatPosition.{FlatPosition}
 use Rattle.flats.specs.declared.FlatAnswer.{FlatAnswer}
 use Rattle.flats.specs.declared.FlatValue.{FlatValue}
 use Rattle.flats.specs.Flat.{means, unclear, settingsOf, positionIn, gives, flatAnswer, flatValue}
 use Rattle.reads.specs.Reading.{Reads, answerFor, resetFor}
-use Rattle.console.specs.Promises.{Leaves, leaves, refusesFlat, flatSetUp, resetOr, flatTotalled, setupFlat, resetFlat, stepFlat, flowFlat, positionFlat, gameStateFlat, bbbvSolvedFlat, leftFlat}
+use Rattle.console.specs.Promises.{Leaves, leaves, refusesFlat, flatSetUp, resetOr, flatTotalled, setupFlat, resetFlat, resolveFlat, stepFlat, flowFlat, positionFlat, gameStateFlat, bbbvSolvedFlat, leftFlat}
 
 -- ---- a byte that means nothing ---------------------------------------------------------------------------------------------------------
 
@@ -135,6 +135,14 @@ module _ (B : List ℤ) (f : FlatPosition) (shown bits : List ℕ) (p : Position
         (λ m. ap asked (e ∙ ap (λ (q : Position). leftToSolveOf B (desk q shown bits) work) (h .clear m)))
         (λ m. lent-as m work)
         (λ m. ap asked (e ∙ left-to-solve-refused B made work (lent-some m work)))
+
+    pub resolve-flat : (code r′ c : ℕ) → a ≡ resolveOf B code r′ c made → r ≡ resolveFlat B code r′ c f shown bits
+    unfolding resolveFlat
+    resolve-flat code r′ c e =
+        answered _ (positionCheck B read) (positionCheck B made)
+        (λ m. e ∙ ap (λ (q : Position). resolveOf B code r′ c (desk q shown bits)) (h .clear m))
+        (λ m. check-as m)
+        (λ m. e ∙ resolve-refused B made (check-some m) code r′ c)
 
     pub state-flat : (event : ℕ) → a ≡ gameStateOf B event made → r ≡ gameStateFlat B event f shown bits
     unfolding gameStateFlat

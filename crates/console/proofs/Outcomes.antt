@@ -9,7 +9,7 @@ use Rattle.flats.specs.declared.FlatPosition.{FlatPosition}
 use Rattle.flats.specs.declared.FlatAnswer.{FlatAnswer}
 use Rattle.flats.specs.declared.FlatValue.{FlatValue}
 use Rattle.flats.specs.declared.FlatBook.{FlatBook}
-use Rattle.console.specs.Promises.{Leaves, leaves, CheckBoardIs, SetupIs, ResetIs, StepIs, StepFlowIs, CheckPositionIs, StepGameStateIs, BbbvSolvedIs, LeftToSolveIs, Total3bvIs, ReadBookIs}
+use Rattle.console.specs.Promises.{Leaves, leaves, CheckBoardIs, SetupIs, ResetIs, ResolveIs, StepIs, StepFlowIs, CheckPositionIs, StepGameStateIs, BbbvSolvedIs, LeftToSolveIs, Total3bvIs, ReadBookIs}
 
 -- the law for all calls with lent lists: both answers are the same, and so are all the lists
 leaves-one : {A : Type 0} {o : Leaves A} {r q : A} {ls ms : List (List ℕ)} → leaves r ls ≡ o → leaves q ms ≡ o → (r ≡ q) × (ls ≡ ms)
@@ -41,6 +41,9 @@ module _ (B : List ℤ) (shown bits : List ℕ) where
 
     pub check-position-one : (r q : FlatValue) → CheckPositionIs f B shown bits r → CheckPositionIs f B shown bits q → r ≡ q
     check-position-one r q h k = one h k
+
+    pub resolve-one : (code row column : ℕ) (r q : FlatAnswer) → ResolveIs f code row column B shown bits r → ResolveIs f code row column B shown bits q → r ≡ q
+    resolve-one code row column r q h k = one h k
 
     pub step-game-state-one : (event : ℕ) (r q : FlatAnswer) → StepGameStateIs f B shown bits event r → StepGameStateIs f B shown bits event q → r ≡ q
     step-game-state-one event r q h k = one h k

@@ -10,7 +10,7 @@ use lib.IntN.{ℤ}
 use Rattle.rules.specs.Words.{pick}
 use Rattle.rules.specs.Board.{faultOf}
 use Rattle.rules.specs.Clicks.{desk}
-use Rattle.rules.specs.Calls.{Outcome, SetUp, Asked, Totalled, checks, boardCheckOf, positionCheck, lentRefusal, flowRefusal, setupOf, resetOf, stepOf, flowOf, gameStateOf, bbbvSolvedOf, leftToSolveOf, totalOf}
+use Rattle.rules.specs.Calls.{Outcome, SetUp, Asked, Totalled, checks, boardCheckOf, positionCheck, lentRefusal, flowRefusal, setupOf, resetOf, resolveOf, stepOf, flowOf, gameStateOf, bbbvSolvedOf, leftToSolveOf, totalOf}
 use Rattle.rules.specs.Book.{bookOf}
 use Rattle.flats.specs.declared.FlatPosition.{FlatPosition}
 use Rattle.flats.specs.declared.FlatAnswer.{FlatAnswer}
@@ -48,10 +48,16 @@ resetOr f o = pick (eqb (o .answer .number) 0) (flatSetUp o) (leaves (gives (o .
 unfoldable pub resetFlat : List ℤ → FlatPosition → List ℕ → List ℕ → Leaves FlatAnswer
 resetFlat B f shown bits = resetOr f (resetOf B (desk (positionIn f) shown bits))
 
--- ---- a step, and a row of events -------------------------------------------------------------------------------------------------------
+-- ---- resolving, a step, and a row of events ----------------------------------------------------------------------------------------------
 
 abbrev pub flatOutcome : Outcome → Leaves FlatAnswer
 flatOutcome o = leaves (flatAnswer (o .answer)) (o .shown ∷ o .bits ∷ o .work ∷ [])
+
+unfoldable pub resolveFlat : List ℤ → ℕ → ℕ → ℕ → FlatPosition → List ℕ → List ℕ → FlatAnswer
+resolveFlat B code r c f shown bits =
+    pick (means f)
+    (flatAnswer (resolveOf B code r c (desk (positionIn f) shown bits)))
+    (refusesFlat B f (unclear (positionCheck B (desk (positionIn f) shown bits))))
 
 unfoldable pub stepFlat : List ℤ → ℕ → ℕ → ℕ → FlatPosition → List ℕ → List ℕ → List ℕ → Leaves FlatAnswer
 stepFlat B code r c f shown bits work =
@@ -106,6 +112,9 @@ SetupIs rows columns mode question rules B shown bits r shown′ bits′ =
 
 abbrev pub ResetIs : FlatPosition → List ℤ → List ℕ → List ℕ → FlatAnswer → List ℕ → List ℕ → Type 0
 ResetIs f B shown bits r shown′ bits′ = leaves r (shown′ ∷ bits′ ∷ []) ≡ resetFlat B f shown bits
+
+abbrev pub ResolveIs : FlatPosition → ℕ → ℕ → ℕ → List ℤ → List ℕ → List ℕ → FlatAnswer → Type 0
+ResolveIs f code row column B shown bits r = r ≡ resolveFlat B code row column f shown bits
 
 abbrev pub StepIs : FlatPosition → ℕ → ℕ → ℕ → List ℤ → List ℕ → List ℕ → List ℕ → FlatAnswer → List ℕ → List ℕ → List ℕ → Type 0
 StepIs f code row column B shown bits work r shown′ bits′ work′ =

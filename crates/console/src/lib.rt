@@ -2,7 +2,7 @@
 // are bytes. Every byte pattern is taken; a state byte that means nothing is refused with 264, after 20 to 263 (specs/Promises.antt).
 ghost use mathlib.Core.Path.{_≡_};
 ghost use Rattle.rules.specs.Promises.{NumberMinesIs};
-ghost use Rattle.console.specs.Promises.{CheckBoardIs, SetupIs, ResetIs, StepIs, StepFlowIs, CheckPositionIs, StepGameStateIs, BbbvSolvedIs, LeftToSolveIs, Total3bvIs, ReadBookIs};
+ghost use Rattle.console.specs.Promises.{CheckBoardIs, SetupIs, ResetIs, ResolveIs, StepIs, StepFlowIs, CheckPositionIs, StepGameStateIs, BbbvSolvedIs, LeftToSolveIs, Total3bvIs, ReadBookIs};
 use flats::FlatAnswer;
 use flats::FlatBook;
 use flats::FlatPosition;
@@ -136,9 +136,27 @@ pub extern "C" fn lm_left_to_solve(
     reads::answer_for(f, a)
 }
 
-// ---- a step, and a row of events -------------------------------------------------------------------------------------------------------
+// ---- resolving, a step, and a row of events ----------------------------------------------------------------------------------------------
 
-// A step tests all, 20 to 33.
+// l, r or m into a plain code, which is the value: 20 to 31. It counts no event; m flips the middle flag.
+#[no_mangle]
+pub extern "C" fn lm_resolve(
+    f: FlatPosition,
+    code: u8,
+    row: u8,
+    column: u8,
+    mines: &[i8],
+    shown: &[u8],
+    bits: &[u8],
+) -> FlatAnswer
+    ensures { λ r. ⌜ ResolveIs f code row column (now (mines .entry)) (now (shown .entry)) (now (bits .entry)) r ⌝ }
+{
+    let p = reads::position_for(f);
+    let a = board::resolve(p, code, row, column, mines, shown, bits);
+    reads::answer_for(f, a)
+}
+
+// A plain step tests all, 20 to 33.
 #[no_mangle]
 pub extern "C" fn lm_step(
     f: FlatPosition,

@@ -1,6 +1,6 @@
 -- A step of a lawful game: what playing an event asks, from the lawful position, and one equation for each way a step ends.
-use mathlib.Core.Path.{_≡_, _∙_, ap, refl}
-use mathlib.Core.Bool.{true}
+use mathlib.Core.Path.{_≡_, _∙_, ap, ap₂, sym, refl}
+use mathlib.Core.Bool.{Bool, true}
 use mathlib.Core.List.{List}
 use Prim.Native.Nat.{ℕ, _+_, _<_, _≤_}
 use native.Mathlib.Omega.{arith}
@@ -21,8 +21,9 @@ use Rattle.rules.specs.Words.{unless}
 use Rattle.rules.specs.States.{mouseNumber, isNotFlag, withMiddle, withEvents}
 use Rattle.rules.specs.Clicks.{desk, done}
 use Rattle.rules.specs.Mouse.{resolved, flipped}
-use Rattle.rules.specs.Step.{mouse, counts, eventRefusal, plainOf, byGame, pointerOf, refusalAt, playAt, stepAt, stepBy, stepOn}
+use Rattle.rules.specs.Step.{mouse, counts, eventRefusal, eventOf, plainOf, plainCode, byGame, pointerOf, refusalAt, playAt, stepAt, stepBy, stepOn}
 use Rattle.mouse.specs.declared.Resolved.{Resolved}
+use Rattle.mouse.proofs.Codes.{plain-event, plain-flips}
 use Rattle.keep.specs.Kept.{LawfulAt, Inside, InsideOf}
 use Rattle.keep.proofs.Room.{preflags-has}
 use Rattle.keep.proofs.Able.{eleven-in, lawful-room}
@@ -100,6 +101,13 @@ module _ (B : List ℤ) (code : ℕ) (x : Pointer) (p : Position) (shown bits : 
     pub resolved-played : n ≡ 0 → (q : Position) → q ≡ withMiddle p (h .middle) → stepAt B code x (desk p shown bits) ≡ playEvent B (h .event) (desk q shown bits)
     unfolding stepAt playAt
     resolved-played z q k = rw (← refusal-is, eq-eqb n 0 z, k, e) refl
+
+-- a plain event is one that was resolved into itself
+pub plain-resolved : (code : ℕ) (x : Pointer) (p : Position) (shown bits : List ℕ) (e : Event) → e ≡ eventOf (plainCode code) x
+    → _≡_ {A = Resolved} (record { event = e; middle = p .middle })
+    (record { event = plainOf (plainCode code) x (desk p shown bits); middle = flipped (plainCode code) (p .middle) })
+plain-resolved code x p shown bits e h =
+    ap₂ (λ (e : Event) (b : Bool). record { event = e; middle = b }) (h ∙ sym (plain-event code (desk p shown bits) x)) (sym (plain-flips code (desk p shown bits)))
 
 -- there is room to count it
 pub not-full : (p : Position) (n rest : ℕ) → p .events < 65535 → n ≡ rest → n ≡ unless 31 (ltb (p .events) 65535) rest

@@ -5,25 +5,28 @@ use mathlib.Core.Bool.{Bool, true, false}
 use mathlib.Core.List.{List}
 use Prim.Native.Nat.{ℕ}
 use borrow.Author.Tests.{eqb-true}
-use lib.Dec.{eqb, leb}
+use lib.Dec.{eqb, leb, ltb}
 use lib.IntN.{ℤ}
 use lib.ListN.{getD}
 use Rattle.rules.specs.declared.Settings.{Settings}
 use Rattle.rules.specs.declared.Answer.{Answer}
+use Rattle.rules.specs.declared.Decoded.{Decoded}
+use Rattle.rules.specs.declared.Decoded.the-variants.{At, Bad}
 use Rattle.rules.specs.declared.GameState.the-variants.{Loss}
 use Rattle.rules.specs.Words.{pick, unless}
-use Rattle.rules.specs.States.{isLoss, withGame}
+use Rattle.rules.specs.States.{mouseNumber, isLoss, withGame, withMiddle}
 use Rattle.rules.specs.Board.{faceAt}
-use Rattle.rules.specs.Clicks.{Desk, desk, done, on}
-use Rattle.rules.specs.Mouse.{rulesOk}
-use Rattle.rules.specs.Step.{stepOn}
+use Rattle.rules.specs.Clicks.{Desk, Play, desk, done, on}
+use Rattle.rules.specs.Mouse.{rulesOk, resolved, flipped}
+use Rattle.rules.specs.Step.{pointerOf, plainCode, plainOn}
 use Rattle.rules.specs.Lawful.{cellLawful}
-use Rattle.rules.specs.Calls.{leftBy, setBy, Outcome, SetUp, boardsFit, freshDesk, setupBy, setupRefusal, resetOf, answers, refuses, setUp, positionCheck, lentRefusal, refused, refusedAt, accepted, openedIn, played, stepOf, plays, lastPlay, flowed, flowRefusal, flowOf, gameStateOf}
+use Rattle.rules.specs.Calls.{leftBy, setBy, Outcome, SetUp, boardsFit, freshDesk, setupBy, setupRefusal, resetOf, answers, refuses, setUp, positionCheck, lentRefusal, resolveBy, resolveOf, refused, refusedAt, accepted, openedIn, played, tested, stepOf, plays, lastPlay, flowed, flowRefusal, flowOf, gameStateOf}
 use Rattle.cells.proofs.Words.{pick-both, unless-passed}
 use Rattle.keep.specs.Kept.{LawfulAt, Follows}
 use Rattle.keep.proofs.Lawful.{settings-accepted, accepted-ground, check-lawful, lent-lawful, flow-lawful, settings-check, check-passes}
 use Rattle.keep.proofs.Fresh.{fresh-lawful}
 use Rattle.keep.proofs.Opened.{lawful-later}
+use Rattle.keep.proofs.Moves.{middle-keeps}
 use Rattle.keep.proofs.Step.{step-follows, step-check, plays-follow}
 
 -- the fresh desk of settings that setup did not refuse
@@ -91,15 +94,35 @@ unfolding resetOf
 reset-keeps B d e =
     setup-by B d (setupRefusal (d .position .settings) B (d .shown) (d .bits)) (setup-keeps (d .position .settings) B (d .shown) (d .bits)) e
 
+-- resolve
+resolve-by-keeps : (B : List ℤ) (code : ℕ) (w : Decoded) (d : Desk) → Accepts B d → Accepts B (on d (resolveBy code w (d .position) .position))
+unfolding resolveBy
+resolve-by-keeps B code Bad d e = e
+resolve-by-keeps B code (At x) d e =
+    let l = check-lawful B d e in
+    let flip = flipped code (d .position .middle) in
+    pick-both (λ (a : Answer). Accepts B (on d (a .position))) (ltb (d .position .events) 65535)
+    (answers 0 (withMiddle (d .position) flip) (resolved (d .position .settings .rules) code (mouseNumber (d .position .mouse)) (d .position .middle))) (answers 31 (d .position) 0)
+    (λ _. check-passes B d (on d (withMiddle (d .position) flip)) e refl (record { kept = middle-keeps flip (l .kept); few = l .few })) (λ _. e)
+
+pub resolve-call-keeps : (B : List ℤ) (code r c : ℕ) (d : Desk) → Accepts B d → Accepts B (on d (resolveOf B code r c d .position))
+unfolding resolveOf
+resolve-call-keeps B code r c d e =
+    let w = pointerOf (d .position .settings) r c in
+    pick-both (λ (a : Answer). Accepts B (on d (a .position))) (eqb (positionCheck B d) 0) (resolveBy code w (d .position)) (refuses B (d .position) (positionCheck B d))
+    (λ _. resolve-by-keeps B code w d e) (λ _. e)
+
 -- step
+tested-keeps : (B : List ℤ) (d : Desk) (work : List ℕ) (o : Play) → Accepts B d → Accepts B (o .desk) → Accepts B (leftBy (tested B d work o))
+tested-keeps B d work o e h =
+    pick-both (λ (x : Outcome). Accepts B (leftBy x)) (eqb (lentRefusal B d work) 0) (played (d .shown) o work) (refusedAt B (lentRefusal B d work) d work)
+    (λ _. pick-both (λ (x : Outcome). Accepts B (leftBy x)) (leb 20 (o .answer))
+    (refused (o .answer) (o .desk) work) (accepted (o .answer) (openedIn (d .shown) (o .desk .shown)) (o .desk) work) (λ _. h) (λ _. h))
+    (λ _. e)
+
 pub step-call-keeps : (B : List ℤ) (code r c : ℕ) (d : Desk) (work : List ℕ) → Accepts B d → Accepts B (leftBy (stepOf B code r c d work))
 unfolding stepOf
-step-call-keeps B code r c d work e =
-    pick-both (λ (o : Outcome). Accepts B (leftBy o)) (eqb (lentRefusal B d work) 0) (played (d .shown) (stepOn B code r c d) work) (refusedAt B (lentRefusal B d work) d work)
-    (λ _. pick-both (λ (o : Outcome). Accepts B (leftBy o)) (leb 20 (stepOn B code r c d .answer))
-    (refused (stepOn B code r c d .answer) (stepOn B code r c d .desk) work) (accepted (stepOn B code r c d .answer) (openedIn (d .shown) (stepOn B code r c d .desk .shown)) (stepOn B code r c d .desk) work)
-    (λ _. step-check B code r c d e) (λ _. step-check B code r c d e))
-    (λ _. e)
+step-call-keeps B code r c d work e = tested-keeps B d work (plainOn B code r c d) e (step-check B (plainCode code) r c d e)
 
 -- step_flow
 pub flow-call-keeps : (B : List ℤ) (events : List ℕ) (d : Desk) (work : List ℕ) → Accepts B d → Accepts B (leftBy (flowOf B events d work))
@@ -142,14 +165,32 @@ reset-settled B d =
 pub reset-rules : (B : List ℤ) (d : Desk) → resetOf B d .answer .position .settings .rules ≡ d .position .settings .rules
 reset-rules B d = settled-rules d (resetOf B d .answer) (reset-settled B d)
 
+-- resolve
+resolve-settled : (code : ℕ) (w : Decoded) (B : List ℤ) (d : Desk) → Settled d (pick (eqb (positionCheck B d) 0) (resolveBy code w (d .position)) (refuses B (d .position) (positionCheck B d)))
+unfolding resolveBy
+resolve-settled code w B d =
+    pick-both (Settled d) (eqb (positionCheck B d) 0) (resolveBy code w (d .position)) (refuses B (d .position) (positionCheck B d)) (λ _. go w) (λ _. refl)
+  where
+    go : (w : Decoded) → Settled d (resolveBy code w (d .position))
+    go Bad = refl
+    go (At x) =
+        pick-both (Settled d) (ltb (d .position .events) 65535)
+        (answers 0 (withMiddle (d .position) (flipped code (d .position .middle))) (resolved (d .position .settings .rules) code (mouseNumber (d .position .mouse)) (d .position .middle)))
+        (answers 31 (d .position) 0) (λ _. refl) (λ _. refl)
+
+pub resolve-rules : (B : List ℤ) (code r c : ℕ) (d : Desk) → resolveOf B code r c d .position .settings .rules ≡ d .position .settings .rules
+unfolding resolveOf
+resolve-rules B code r c d = settled-rules d (resolveOf B code r c d) (resolve-settled code (pointerOf (d .position .settings) r c) B d)
+
 -- step
 step-settled : (B : List ℤ) (code r c : ℕ) (d : Desk) (work : List ℕ) → Settled d (stepOf B code r c d work .answer)
 unfolding stepOf
 step-settled B code r c d work =
-    pick-both (λ (o : Outcome). Settled d (o .answer)) (eqb (lentRefusal B d work) 0) (played (d .shown) (stepOn B code r c d) work) (refusedAt B (lentRefusal B d work) d work)
-    (λ z. let f = step-follows B code r c d (lent-lawful B d work (eqb-true _ _ z)) in
-    pick-both (λ (o : Outcome). Settled d (o .answer)) (leb 20 (stepOn B code r c d .answer))
-    (refused (stepOn B code r c d .answer) (stepOn B code r c d .desk) work) (accepted (stepOn B code r c d .answer) (openedIn (d .shown) (stepOn B code r c d .desk .shown)) (stepOn B code r c d .desk) work)
+    let o = plainOn B code r c d in
+    pick-both (λ (x : Outcome). Settled d (x .answer)) (eqb (lentRefusal B d work) 0) (played (d .shown) o work) (refusedAt B (lentRefusal B d work) d work)
+    (λ z. let f = step-follows B (plainCode code) r c d (lent-lawful B d work (eqb-true _ _ z)) in
+    pick-both (λ (x : Outcome). Settled d (x .answer)) (leb 20 (o .answer))
+    (refused (o .answer) (o .desk) work) (accepted (o .answer) (openedIn (d .shown) (o .desk .shown)) (o .desk) work)
     (λ _. f .settings) (λ _. f .settings))
     (λ _. refl)
 

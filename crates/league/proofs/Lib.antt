@@ -1,5 +1,5 @@
-pub mod Moves
 pub mod Sums
+pub mod Moves
 pub mod Secret
 pub mod Played
 pub mod Rules

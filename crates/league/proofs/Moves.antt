@@ -5,21 +5,26 @@ use mathlib.Core.Bool.{Bool, true, false, _&&_}
 use Prim.Native.Nat.{ℕ, _%_}
 use lib.ListN.{length}
 use lib.IntN.{ℤ}
-use lib.Dec.{leb, eqb}
-use borrow.Author.Tests.{eqb-true}
+use lib.Dec.{leb, ltb, eqb}
+use borrow.Author.Tests.{eqb-true, eq-eqb}
 use Rattle.rules.specs.declared.Settings.{Settings}
+use Rattle.rules.specs.declared.Answer.{Answer}
+use Rattle.rules.specs.declared.Decoded.{Decoded}
+use Rattle.rules.specs.declared.Decoded.the-variants.{At, Bad}
 use Rattle.rules.specs.declared.Place.the-variants.{Nowhere}
 use Rattle.rules.specs.Words.{pick, unless}
 use Rattle.rules.specs.Grid.{sizeOk}
 use Rattle.rules.specs.Board.{boardRefusal, faultOf}
 use Rattle.rules.specs.States.{freshOf}
-use Rattle.rules.specs.Clicks.{Desk, Play, done}
+use Rattle.rules.specs.Clicks.{Desk, Play, done, on}
+use Rattle.rules.specs.Mouse.{flipped}
 use Rattle.rules.specs.Lawful.{lawfulRefusal}
-use Rattle.rules.specs.Step.{stepOn}
+use Rattle.rules.specs.Step.{pointerOf, stepOn, plainCode, plainOn}
 use Rattle.rules.specs.Calls.{
   leftBy,
   setBy,
   Outcome,
+  outcome,
   answers,
   refuses,
   setUp,
@@ -39,6 +44,9 @@ use Rattle.rules.specs.Calls.{
   accepted,
   openedIn,
   played,
+  tested,
+  resolveBy,
+  resolveOf,
   stepOf,
   plays,
   lastPlay,
@@ -47,14 +55,17 @@ use Rattle.rules.specs.Calls.{
   flowOf,
   cellsIn,
 }
-use Rattle.cells.proofs.Words.{unless-passed}
-use Rattle.keep.proofs.Calls.{setup-keeps, step-call-keeps, flow-call-keeps}
+use Rattle.cells.proofs.Words.{pick-both, unless-passed}
+use Rattle.keep.proofs.Calls.{setup-keeps, resolve-call-keeps, step-call-keeps, flow-call-keeps}
+use Rattle.board.specs.Pair.{pairBy, pairOf}
+use Rattle.board.proofs.Pair.{plainAt, flippedAt, middle-check, pair-is-step}
 use Rattle.secrecy.proofs.Quiet.{over, aPlay, lostIn, Quiet, branch, then, only}
 use Rattle.secrecy.proofs.Hands.{idle}
 use Rattle.secrecy.proofs.Events.{step-quiet}
 use Rattle.secrecy.proofs.Rows.{Move}
 use Rattle.secrecy.proofs.Secrecy.{event}
-use Rattle.league.specs.Secret.{Function, step, flow, CallIs, playOf, Placeless}
+use Rattle.league.specs.Secret.{Function, resolve, step, pair, flow, CallIs, playOf, Placeless}
+use Rattle.league.proofs.Sums.{resolve-leaves, pair-leaves}
 
 -- ---- setup ---------------------------------------------------------------------------------------------------------------------------------
 
@@ -104,17 +115,17 @@ more-to-fit false false B d e = settings-false (d .position .settings) false B (
 
 -- a call that is refused unless something fits, as a play
 module _ (t : Bool) (n : ℕ) (o : Outcome) (B : List ℤ) (d : Desk) (work : List ℕ) (e : n ≡ unless 21 t 0) where
-  tested : playOf (pick (eqb n 0) o (refusedAt B n d work)) ≡ pick t (playOf o) (done 21 d)
-  tested = ap (λ (m : ℕ). playOf (pick (eqb m 0) o (refusedAt B m d work))) e ∙ go t
+  if-fits : playOf (pick (eqb n 0) o (refusedAt B n d work)) ≡ pick t (playOf o) (done 21 d)
+  if-fits = ap (λ (m : ℕ). playOf (pick (eqb m 0) o (refusedAt B m d work))) e ∙ go t
     where
       go : (t : Bool) → playOf (pick (eqb (unless 21 t 0) 0) o (refusedAt B (unless 21 t 0) d work)) ≡ pick t (playOf o) (done 21 d)
       go true = refl
       go false = refl
 
   -- and 21 has no place
-  tested-place : o .answer .place ≡ Nowhere → pick (eqb n 0) o (refusedAt B n d work) .answer .place ≡ Nowhere
+  fits-place : o .answer .place ≡ Nowhere → pick (eqb n 0) o (refusedAt B n d work) .answer .place ≡ Nowhere
   unfolding faultOf
-  tested-place h = ap (λ (m : ℕ). pick (eqb m 0) o (refusedAt B m d work) .answer .place) e ∙ go t
+  fits-place h = ap (λ (m : ℕ). pick (eqb m 0) o (refusedAt B m d work) .answer .place) e ∙ go t
     where
       go : (t : Bool) → pick (eqb (unless 21 t 0) 0) o (refusedAt B (unless 21 t 0) d work) .answer .place ≡ Nowhere
       go true = h
@@ -129,14 +140,73 @@ played-play before o work = go (leb 20 (o .answer))
     go true = refl
     go false = refl
 
-step-plays : (B : List ℤ) (code r c : ℕ) (d : Desk) (work : List ℕ) → positionCheck B d ≡ 0
-    → playOf (stepOf B code r c d work) ≡ pick (workFits (d .position .settings) work) (stepOn B code r c d) (done 21 d)
-unfolding stepOf lentRefusal positionCheck
-step-plays B code r c d work e =
+-- an event as a call, with enough work or without
+event-plays : (B : List ℤ) (o : Play) (d : Desk) (work : List ℕ) → positionCheck B d ≡ 0
+    → playOf (tested B d work o) ≡ pick (workFits (d .position .settings) work) o (done 21 d)
+unfolding lentRefusal positionCheck
+event-plays B o d work e =
     let t = workFits (d .position .settings) work in
-    tested t (lentRefusal B d work) (played (d .shown) (stepOn B code r c d) work) B d work
-    (more-to-fit (boardsFit (d .position .settings) B (d .shown) (d .bits)) t B d e)
-    ∙ ap (λ (o : Play). pick t o (done 21 d)) (played-play (d .shown) (stepOn B code r c d) work)
+    if-fits t (lentRefusal B d work) (played (d .shown) o work) B d work (more-to-fit (boardsFit (d .position .settings) B (d .shown) (d .bits)) t B d e)
+    ∙ ap (λ (x : Play). pick t x (done 21 d)) (played-play (d .shown) o work)
+
+step-plays : (B : List ℤ) (code r c : ℕ) (d : Desk) (work : List ℕ) → positionCheck B d ≡ 0
+    → playOf (stepOf B code r c d work) ≡ pick (workFits (d .position .settings) work) (plainOn B code r c d) (done 21 d)
+unfolding stepOf
+step-plays B code r c d work e = event-plays B (plainOn B code r c d) d work e
+
+-- ---- resolve, and the pair -------------------------------------------------------------------------------------------------------------------
+
+-- what resolve leaves where 20 to 264 do not refuse, answering n where 30 and 31 do not either
+resolving : ℕ → ℕ → Decoded → Desk → Play
+resolving n code (At x) d = pick (ltb (d .position .events) 65535) (done n (flippedAt code d)) (done 31 d)
+resolving n code Bad d = done 30 d
+
+resolve-heard : (B : List ℤ) (code r c : ℕ) (d : Desk) → positionCheck B d ≡ 0
+    → resolveOf B code r c d ≡ resolveBy code (pointerOf (d .position .settings) r c) (d .position)
+unfolding resolveOf
+resolve-heard B code r c d e = simp (eq-eqb _ _ e)
+
+resolve-by-plays : (code : ℕ) (w : Decoded) (d : Desk) (work : List ℕ) → playOf (outcome (resolveBy code w (d .position)) (d .shown) (d .bits) work) ≡ resolving 0 code w d
+unfolding resolveBy resolving
+resolve-by-plays code Bad d work = refl
+resolve-by-plays code (At x) d work = go (ltb (d .position .events) 65535)
+  where
+    go : (b : Bool) → playOf (outcome (pick b (answers 0 (flippedAt code d .position) (plainAt code d)) (answers 31 (d .position) 0)) (d .shown) (d .bits) work)
+        ≡ pick b (done 0 (flippedAt code d)) (done 31 d)
+    go true = refl
+    go false = refl
+
+-- with too little work the pair resolves, and its step is refused with 21
+short-by : (B : List ℤ) (code r c : ℕ) (w : Decoded) (d : Desk) (work : List ℕ) → workFits (d .position .settings) work ≡ false → positionCheck B d ≡ 0
+    → playOf (pairBy B r c d work (resolveBy code w (d .position))) ≡ resolving 21 code w d
+unfolding resolveBy resolving
+short-by B code r c Bad d work f e = refl
+short-by B code r c (At x) d work f e = go (ltb (d .position .events) 65535)
+  where
+    go : (b : Bool) → playOf (pairBy B r c d work (pick b (answers 0 (flippedAt code d .position) (plainAt code d)) (answers 31 (d .position) 0)))
+        ≡ pick b (done 21 (flippedAt code d)) (done 31 d)
+    go true =
+        step-plays B (plainAt code d) r c (flippedAt code d) work (middle-check B d (flipped code (d .position .middle)) e)
+        ∙ ap (λ (t : Bool). pick t (plainOn B (plainAt code d) r c (flippedAt code d)) (done 21 (flippedAt code d))) f
+    go false = refl
+
+pair-plays : (B : List ℤ) (code r c : ℕ) (d : Desk) (work : List ℕ) (enough : Bool) → workFits (d .position .settings) work ≡ enough → positionCheck B d ≡ 0
+    → playOf (pairOf B code r c d work) ≡ pick enough (stepOn B code r c d) (resolving 21 code (pointerOf (d .position .settings) r c) d)
+pair-plays B code r c d work true w e =
+    ap playOf (pair-is-step B code r c d work w) ∙ (event-plays B (stepOn B code r c d) d work e ∙ ap (λ (t : Bool). pick t (stepOn B code r c d) (done 21 d)) w)
+pair-plays B code r c d work false w e =
+    ap (λ (a : Answer). playOf (pairBy B r c d work a)) (resolve-heard B code r c d e) ∙ short-by B code r c (pointerOf (d .position .settings) r c) d work w e
+
+-- it reads no board
+resolving-quiet : (n code r c : ℕ) (d : Desk)
+    → Quiet aPlay (lostIn d) (d .shown) (λ B h. resolving n code (pointerOf (d .position .settings) r c) (over d h))
+unfolding resolving
+resolving-quiet n code r c d = go (pointerOf (d .position .settings) r c)
+  where
+    go : (w : Decoded) → Quiet aPlay (lostIn d) (d .shown) (λ B h. resolving n code w (over d h))
+    go Bad = idle (lostIn d) 30 d refl
+    go (At x) =
+        branch aPlay (lostIn d) (d .shown) (ltb (d .position .events) 65535) (λ _. idle (lostIn d) n (flippedAt code d) refl) (λ _. idle (lostIn d) 31 d refl)
 
 -- ---- step_flow -----------------------------------------------------------------------------------------------------------------------------
 
@@ -153,7 +223,7 @@ flow-plays : (B : List ℤ) (events : List ℕ) (d : Desk) (work : List ℕ) →
 unfolding flowOf flowRefusal positionCheck whole
 flow-plays B events d work e =
     let t = workFits (d .position .settings) work && whole events in
-    tested t (flowRefusal B events d work) (flowed (plays B events d) (lastPlay (done 0 d) (plays B events d)) work) B d work
+    if-fits t (flowRefusal B events d work) (flowed (plays B events d) (lastPlay (done 0 d) (plays B events d)) work) B d work
     (more-to-fit (boardsFit (d .position .settings) B (d .shown) (d .bits)) t B d e)
 
 -- the last play of a flow is quiet
@@ -183,7 +253,15 @@ ifFits t m = record {
 
 -- what a function plays, lent enough work or not
 pub move : Function → Bool → Move
-move (step code row column) enough = ifFits enough (event code row column)
+move (resolve code row column) enough = record {
+  play = λ B d. resolving 0 code (pointerOf (d .position .settings) row column) d;
+  quiet = resolving-quiet 0 code row column;
+}
+move (step code row column) enough = ifFits enough (event (plainCode code) row column)
+move (pair code row column) enough = record {
+  play = λ B d. pick enough (stepOn B code row column d) (resolving 21 code (pointerOf (d .position .settings) row column) d);
+  quiet = λ d. branch aPlay (lostIn d) (d .shown) enough (λ _. step-quiet code row column d) (λ _. resolving-quiet 21 code row column d);
+}
 move (flow events) enough =
     ifFits (enough && whole events)
     (record {
@@ -191,24 +269,38 @@ move (flow events) enough =
       quiet = λ d. only aPlay aPlay (lostIn d) (d .shown) (λ B h. lastPlay (done 0 (over d h)) (plays B events (over d h))) ended (λ o. refl) (λ o h. refl) (last-quiet events 0 d);
     })
 
--- a step that is lent enough work
-pub step-move : (code row column : ℕ) (B : List ℤ) (d : Desk) → move (step code row column) true .play B d ≡ stepOn B code row column d
-unfolding move ifFits
-step-move code row column B d = refl
+-- a pair that is lent enough work
+pub pair-move : (code row column : ℕ) (B : List ℤ) (d : Desk) → move (pair code row column) true .play B d ≡ stepOn B code row column d
+unfolding move
+pair-move code row column B d = refl
+
+pair-keeps : (B : List ℤ) (code r c : ℕ) (d : Desk) (work : List ℕ) → positionCheck B d ≡ 0 → positionCheck B (leftBy (pairOf B code r c d work)) ≡ 0
+pair-keeps B code r c d work e =
+    let a = resolveOf B code r c d in
+    let k = resolve-call-keeps B code r c d e in
+    pick-both (λ (o : Outcome). positionCheck B (leftBy o) ≡ 0) (eqb (a .number) 0) (stepOf B (a .value) r c (on d (a .position)) work) (outcome a (d .shown) (d .bits) work)
+    (λ _. step-call-keeps B (a .value) r c (on d (a .position)) work k) (λ _. k)
 
 module _ (B : List ℤ) (d : Desk) (work : List ℕ) (o : Outcome) where
   -- what a call leaves is what the move leaves, and the position check accepts it
   pub call-moves : (f : Function) (enough : Bool) → workFits (d .position .settings) work ≡ enough → CallIs f B d work o → positionCheck B d ≡ 0
       → playOf o ≡ move f enough .play B d
   unfolding move ifFits
+  call-moves (resolve code row column) enough w c e =
+      ap playOf (resolve-leaves code row column B d work o c)
+      ∙ (ap (λ (a : Answer). playOf (outcome a (d .shown) (d .bits) work)) (resolve-heard B code row column d e)
+      ∙ resolve-by-plays code (pointerOf (d .position .settings) row column) d work)
   call-moves (step code row column) enough w c e =
-      ap playOf c ∙ (step-plays B code row column d work e ∙ ap (λ (t : Bool). pick t (stepOn B code row column d) (done 21 d)) w)
+      ap playOf c ∙ (step-plays B code row column d work e ∙ ap (λ (t : Bool). pick t (plainOn B code row column d) (done 21 d)) w)
+  call-moves (pair code row column) enough w c e = ap playOf (pair-leaves code row column B d work o c) ∙ pair-plays B code row column d work enough w e
   call-moves (flow events) enough w c e =
       ap playOf c
       ∙ (flow-plays B events d work e ∙ ap (λ (t : Bool). pick (t && whole events) (ended (lastPlay (done 0 d) (plays B events d))) (done 21 d)) w)
 
   pub call-keeps : (f : Function) → CallIs f B d work o → positionCheck B d ≡ 0 → positionCheck B (leftBy o) ≡ 0
+  call-keeps (resolve code row column) c e = rw (resolve-leaves code row column B d work o c) (resolve-call-keeps B code row column d e)
   call-keeps (step code row column) c e = rw c (step-call-keeps B code row column d work e)
+  call-keeps (pair code row column) c e = rw (pair-leaves code row column B d work o c) (pair-keeps B code row column d work e)
   call-keeps (flow events) c e = rw c (flow-call-keeps B events d work e)
 
 -- ---- no place ------------------------------------------------------------------------------------------------------------------------------
@@ -221,15 +313,37 @@ played-place before o work = go (leb 20 (o .answer))
     go true = refl
     go false = refl
 
-pub placeless : Placeless
-unfolding stepOf flowOf lentRefusal flowRefusal positionCheck whole
-placeless (step code r c) B d work o e h =
+step-place : (B : List ℤ) (code r c : ℕ) (d : Desk) (work : List ℕ) → positionCheck B d ≡ 0 → stepOf B code r c d work .answer .place ≡ Nowhere
+unfolding stepOf lentRefusal positionCheck
+step-place B code r c d work e =
     let t = workFits (d .position .settings) work in
-    ap (λ (x : Outcome). x .answer .place) h
-    ∙ tested-place t (lentRefusal B d work) (played (d .shown) (stepOn B code r c d) work) B d work
-    (more-to-fit (boardsFit (d .position .settings) B (d .shown) (d .bits)) t B d e) (played-place (d .shown) (stepOn B code r c d) work)
+    fits-place t (lentRefusal B d work) (played (d .shown) (plainOn B code r c d) work) B d work
+    (more-to-fit (boardsFit (d .position .settings) B (d .shown) (d .bits)) t B d e) (played-place (d .shown) (plainOn B code r c d) work)
+
+resolve-by-place : (code : ℕ) (w : Decoded) (d : Desk) → resolveBy code w (d .position) .place ≡ Nowhere
+unfolding resolveBy
+resolve-by-place code Bad d = refl
+resolve-by-place code (At x) d =
+    pick-both (λ (a : Answer). a .place ≡ Nowhere) (ltb (d .position .events) 65535) (answers 0 (flippedAt code d .position) (plainAt code d)) (answers 31 (d .position) 0)
+    (λ _. refl) (λ _. refl)
+
+resolve-place : (B : List ℤ) (code r c : ℕ) (d : Desk) → positionCheck B d ≡ 0 → resolveOf B code r c d .place ≡ Nowhere
+resolve-place B code r c d e =
+    ap (λ (a : Answer). a .place) (resolve-heard B code r c d e) ∙ resolve-by-place code (pointerOf (d .position .settings) r c) d
+
+pair-place : (B : List ℤ) (code r c : ℕ) (d : Desk) (work : List ℕ) → positionCheck B d ≡ 0 → pairOf B code r c d work .answer .place ≡ Nowhere
+pair-place B code r c d work e =
+    let a = resolveOf B code r c d in
+    pick-both (λ (o : Outcome). o .answer .place ≡ Nowhere) (eqb (a .number) 0) (stepOf B (a .value) r c (on d (a .position)) work) (outcome a (d .shown) (d .bits) work)
+    (λ _. step-place B (a .value) r c (on d (a .position)) work (resolve-call-keeps B code r c d e)) (λ _. resolve-place B code r c d e)
+
+pub placeless : Placeless
+unfolding flowOf flowRefusal positionCheck whole
+placeless (resolve code r c) B d work o e h = ap (λ (a : Answer). a .place) (h .0) ∙ resolve-place B code r c d e
+placeless (step code r c) B d work o e h = ap (λ (x : Outcome). x .answer .place) h ∙ step-place B code r c d work e
+placeless (pair code r c) B d work o e h = ap (λ (x : Outcome). x .answer .place) (pair-leaves code r c B d work o h) ∙ pair-place B code r c d work e
 placeless (flow events) B d work o e h =
     let t = workFits (d .position .settings) work && whole events in
     ap (λ (x : Outcome). x .answer .place) h
-    ∙ tested-place t (flowRefusal B events d work) (flowed (plays B events d) (lastPlay (done 0 d) (plays B events d)) work) B d work
+    ∙ fits-place t (flowRefusal B events d work) (flowed (plays B events d) (lastPlay (done 0 d) (plays B events d)) work) B d work
     (more-to-fit (boardsFit (d .position .settings) B (d .shown) (d .bits)) t B d e) refl

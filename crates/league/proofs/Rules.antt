@@ -29,6 +29,7 @@ use Rattle.keep.specs.Kept.{LawfulAt}
 use Rattle.keep.proofs.Step.{step-follows}
 use Rattle.book.proofs.Before.{book-before, old-rules}
 use Rattle.printing.proofs.Beginning.{book-lawful}
+use Rattle.board.proofs.Pair.{resolve-gives-back}
 use Rattle.board.proofs.Outcomes.{setup-refused, reset-refused, flow-refused, step-gives-back, step-game-state-gives-back}
 use Rattle.league.specs.Before.{plainBefore, refusalBefore, playBefore, stepAtBefore, stepByBefore, stepBefore, playsBefore, printed, printoutBefore}
 use Rattle.league.specs.Rules.{FirstDemand, ThirdDemand}
@@ -119,6 +120,7 @@ first-demand : (rules : ℕ) → FirstDemand rules
 first-demand rules = record {
   setup = λ s B shown bits _ h. setup-refused s B shown bits h;
   reset = λ B d _ h. reset-refused B d h;
+  resolve = λ B code r c d _ h. resolve-gives-back (d .position) code r c B (d .shown) (d .bits) _ refl h;
   step = λ B code r c d work _ h. step-gives-back (d .position) code r c B (d .shown) (d .bits) work _ _ _ _ refl h;
   flow = λ B events d work _ h. flow-refused B d work events h;
   state = λ B event d _ h. step-game-state-gives-back (d .position) B (d .shown) (d .bits) event _ refl h;

@@ -6,10 +6,11 @@ use Rattle.rules.specs.declared.Settings.{Settings}
 use Rattle.rules.specs.Clicks.{Desk, Play, desk}
 use Rattle.rules.specs.Calls.{setBy, freshDesk, SetUp, Outcome, setupOf, positionCheck}
 use Rattle.secrecy.specs.Demand.{seenOf, endOf, Twins}
-use Rattle.secrecy.proofs.Rows.{Move, rowOf, row-secrecy}
+use Rattle.secrecy.proofs.Quiet.{bare, over}
+use Rattle.secrecy.proofs.Rows.{Move, bared, rowOf, twins-alike}
 use Rattle.league.specs.Secret.{Call, playOf, seenBy, Row, none, next, Game, CodeDemand}
 use Rattle.league.proofs.Moves.{begins, start-checked, move, call-moves, call-keeps}
-use Rattle.league.proofs.Sums.{toldAll, row-told}
+use Rattle.league.proofs.Sums.{toldAll, all-bared, row-told}
 
 unfoldable pub moves : List Call → List Move
 moves [] = []
@@ -41,14 +42,16 @@ module _ {s : Settings} {calls : List Call} {B : List ℤ} {os : List Outcome} (
   game-moves = row-moves fresh-row (start-checked s B (g .shown) (g .bits) setup-ok)
 
   -- and tells what is seen of it
-  pub game-told : map seenBy os ≡ toldAll calls (seenOf s (map playOf os))
+  pub game-told : map seenBy os ≡ toldAll calls (freshDesk s) (map playOf os)
   game-told = row-told fresh-row
 
 -- THE theorem for the code
 pub code-secrecy : CodeDemand
 code-secrecy s calls A B os ps g h tw =
     let a = game-moves g in
-    let same : seenOf s (map playOf os) ≡ seenOf s (map playOf ps)
-    = ap (seenOf s) a
-    ∙ (row-secrecy (moves calls) s A B (subst (λ (l : List Play). Twins s (endOf s l) A B) a tw) ∙ sym (ap (seenOf s) (game-moves h))) in
-    game-told g ∙ (ap (toldAll calls) same ∙ sym (game-told h))
+    let same : map bared (map playOf os) ≡ map bared (map playOf ps)
+    = ap (map bared) a
+    ∙ (twins-alike (moves calls) s A B (subst (λ (l : List Play). Twins s (endOf s l) A B) a tw) ∙ sym (ap (map bared) (game-moves h))) in
+    game-told g
+    ∙ (all-bared calls (freshDesk s) (map playOf os)
+    ∙ (ap (toldAll calls (over (freshDesk s) bare)) same ∙ sym (game-told h ∙ all-bared calls (freshDesk s) (map playOf ps))))

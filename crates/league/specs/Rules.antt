@@ -6,7 +6,7 @@ use lib.IntN.{ℤ}
 use Rattle.rules.specs.declared.Settings.{Settings}
 use Rattle.rules.specs.States.{freshOf}
 use Rattle.rules.specs.Clicks.{Desk}
-use Rattle.rules.specs.Calls.{Outcome, refuses, setUp, refusedAt, setupRefusal, setupOf, resetOf, stepOf, flowRefusal, flowOf, gameStateOf}
+use Rattle.rules.specs.Calls.{Outcome, refuses, setUp, refusedAt, setupRefusal, setupOf, resetOf, resolveOf, stepOf, flowRefusal, flowOf, gameStateOf}
 use Rattle.secrecy.specs.Demand.{endOf, Twins}
 use Rattle.league.specs.Secret.{Call, playOf, seenBy, Game}
 
@@ -20,6 +20,8 @@ pub record FirstDemand (rules : ℕ) : Type 0 where
       → setupOf s B shown bits ≡ setUp (refuses B (freshOf s) (setupRefusal s B shown bits)) shown bits
   pub reset : (B : List ℤ) (d : Desk) → By rules d → (setupRefusal (d .position .settings) B (d .shown) (d .bits) ≡ 0 → ⊥)
       → resetOf B d ≡ setUp (refuses B (d .position) (setupRefusal (d .position .settings) B (d .shown) (d .bits))) (d .shown) (d .bits)
+  pub resolve : (B : List ℤ) (code r c : ℕ) (d : Desk) → By rules d → (resolveOf B code r c d .number ≡ 0 → ⊥)
+      → resolveOf B code r c d ≡ refuses B (d .position) (resolveOf B code r c d .number)
   pub step : (B : List ℤ) (code r c : ℕ) (d : Desk) (work : List ℕ) → By rules d → 20 ≤ stepOf B code r c d work .answer .number
       → stepOf B code r c d work ≡ refusedAt B (stepOf B code r c d work .answer .number) d work
   pub flow : (B : List ℤ) (events : List ℕ) (d : Desk) (work : List ℕ) → By rules d → (flowRefusal B events d work ≡ 0 → ⊥)

@@ -1,5 +1,5 @@
 -- Demand 3 as what a league relies on, by the contracts of the public functions: two games that board::setup begins, and that any row of calls
--- of board::step and board::step_flow continues, refused ones among them, look the same after every call.
+-- of board::resolve, board::step, both as a pair, and board::step_flow continues, refused ones among them, look the same after every call.
 use mathlib.Core.Path.{_≡_}
 use mathlib.Core.Bool.{Bool, true}
 use mathlib.Core.List.{List, [], _∷_, map}
@@ -11,12 +11,14 @@ use Rattle.rules.specs.declared.Place.the-variants.{Nowhere}
 use Rattle.rules.specs.Clicks.{Desk, Play, desk, done}
 use Rattle.rules.specs.Step.{stepOn}
 use Rattle.rules.specs.Calls.{leftBy, Outcome, workFits, setupOf, positionCheck}
-use Rattle.rules.specs.Promises.{SetupIs, StepIs, StepFlowIs}
+use Rattle.rules.specs.Promises.{SetupIs, ResolveIs, StepIs, StepFlowIs}
 use Rattle.secrecy.specs.Demand.{Seen, seenOf, game, endOf, Twins}
 
--- what is called: step with one event, or step_flow with a row of events
+-- what is called: resolve with one event, step with a plain one, both for one event, or step_flow with a row of events
 pub data Function : Type 0 where
+  resolve : (code row column : ℕ) → Function
   step : (code row column : ℕ) → Function
+  pair : (code row column : ℕ) → Function
   flow : (events : List ℕ) → Function
 
 -- a call, and whether the work that it is lent is long enough
@@ -24,10 +26,26 @@ pub record Call : Type 0 where
   pub function : Function
   pub enough : Bool
 
+-- what a call that only reads leaves of what it is lent
+pub record Untouched (d : Desk) (work : List ℕ) (o : Outcome) : Type 0 where
+  pub shown : o .shown ≡ d .shown
+  pub bits : o .bits ≡ d .bits
+  pub lent : o .work ≡ work
+
+-- the pair: what resolve refuses is not stepped with; else the step has the code that resolve answered, at the position that it gave back
+pub data PairIs (code row column : ℕ) (B : List ℤ) (d : Desk) (work : List ℕ) (o : Outcome) : Type 0 where
+  unheard : ResolveIs (d .position) code row column B (d .shown) (d .bits) (o .answer) → (o .answer .number ≡ 0 → ⊥) → Untouched d work o
+      → PairIs code row column B d work o
+  stepped : (a : Answer) → ResolveIs (d .position) code row column B (d .shown) (d .bits) a → a .number ≡ 0
+      → StepIs (a .position) (a .value) row column B (d .shown) (d .bits) work (o .answer) (o .shown) (o .bits) (o .work)
+      → PairIs code row column B d work o
+
 -- what the contract says of a function that is called at a desk and lent this work: o is its outcome
 abbrev pub CallIs : Function → List ℤ → Desk → List ℕ → Outcome → Type 0
+CallIs (resolve code row column) B d work o = ResolveIs (d .position) code row column B (d .shown) (d .bits) (o .answer) × Untouched d work o
 CallIs (step code row column) B d work o =
     StepIs (d .position) code row column B (d .shown) (d .bits) work (o .answer) (o .shown) (o .bits) (o .work)
+CallIs (pair code row column) B d work o = PairIs code row column B d work o
 CallIs (flow events) B d work o =
     StepFlowIs (d .position) events B (d .shown) (d .bits) work (o .answer) (o .shown) (o .bits) (o .work)
 
@@ -35,7 +53,7 @@ CallIs (flow events) B d work o =
 abbrev pub playOf : Outcome → Play
 playOf o = done (o .answer .number) (leftBy o)
 
--- what is seen of an outcome: how many cells were opened is its value
+-- what is seen of an outcome: its value is how many cells a step opened, and the plain code of what was resolved
 abbrev pub seenBy : Outcome → Seen
 seenBy o = record {
   answer = o .answer .number;
@@ -85,12 +103,12 @@ Playable =
     (s : Settings) (calls : List Call) (B : List ℤ) (shown bits : List ℕ) → setupOf s B shown bits .answer .number ≡ 0
     → (os : List Outcome) × Game s calls B os
 
--- step called once an event, each time lent enough work
+-- resolve and step called once an event, each time lent enough work
 unfoldable pub stepsOf : List ℕ → List Call
 stepsOf [] = []
 stepsOf (code ∷ []) = []
 stepsOf (code ∷ r ∷ []) = []
-stepsOf (code ∷ r ∷ c ∷ es) = record { function = step code r c; enough = true } ∷ stepsOf es
+stepsOf (code ∷ r ∷ c ∷ es) = record { function = pair code r c; enough = true } ∷ stepsOf es
 
 -- these calls leave the plays of the demand's own game, and show what the demand speaks of: their values are its sums
 abbrev pub StepsPlay : Type 0

@@ -10,7 +10,8 @@ ghost use Rattle.rules.specs.Words.{pick};
 ghost use Rattle.rules.specs.Grid.{cellOf};
 ghost use Rattle.rules.specs.Clicks.{desk};
 ghost use Rattle.rules.specs.Mouse.{nextMouse, moved as movedOf, bothDown, resolved, flipped};
-ghost use Rattle.rules.specs.Step.{onCell, seenAt, pointerOf, eventOf, plainOf};
+ghost use Rattle.rules.specs.States.{mouseNumber};
+ghost use Rattle.rules.specs.Step.{onCell, seenAt, pointerOf, eventOf, plainOf, plainCode};
 use rules::Decoded;
 use rules::Event;
 use rules::Played;
@@ -106,8 +107,17 @@ fn resolve(rules: u8, code: u8, m: u8, middle: bool) -> u8
     code
 }
 
+// A code at a position as a plain one.
+pub fn code_at(p: Position, code: u8) -> u8
+    ensures { λ r. ⌜ r ≡ resolved (p .settings .rules) code (mouseNumber (p .mouse)) (p .middle) ⌝ }
+{
+    let mouse = p.mouse;
+    let m = rules::mouse_number(mouse);
+    resolve(p.settings.rules, code, m, p.middle)
+}
+
 // m flips the middle flag.
-fn flip(code: u8, middle: bool) -> bool
+pub fn flip(code: u8, middle: bool) -> bool
     ensures { λ r. ⌜ r ≡ flipped code middle ⌝ }
 {
     if code == 11 {
@@ -205,13 +215,29 @@ fn event_of(code: u8, x: Pointer) -> Event
     }
 }
 
+// l, r and m are no plain codes, and as unknown as 12.
+fn plain_code(code: u8) -> u8
+    ensures { λ r. ⌜ r ≡ plainCode code ⌝ }
+{
+    if (9 <= code) & (code <= 11) {
+        return 12;
+    }
+    code
+}
+
+// The event of a code where plain events only are played.
+pub fn plain_event(code: u8, x: Pointer) -> Event
+    ensures { λ r. ⌜ r ≡ eventOf (plainCode code) x ⌝ }
+{
+    let c = plain_code(code);
+    event_of(c, x)
+}
+
 // The plain event that a code and a pointer are at a position.
 fn plain(p: Position, code: u8, x: Pointer) -> Event
     ensures { λ r. ⌜ ((shown bits : List ℕ) → r ≡ plainOf code x (desk p shown bits)) ⌝ }
 {
-    let mouse = p.mouse;
-    let m = rules::mouse_number(mouse);
-    let c = resolve(p.settings.rules, code, m, p.middle);
+    let c = code_at(p, code);
     event_of(c, x)
 }
 

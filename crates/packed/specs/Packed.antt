@@ -1,5 +1,6 @@
 -- A packed step: where the numbers of its position stand in its head of 80 bytes, and what a byte of its mine board is. Bytes 51 to 53 are the
--- event's code, row and column; 55 to 71 are reserved, 0 and not read; from 72 on stand the lengths of the mine board, the shown board, the bits and the work.
+-- event's code, row and column, 55 says which call it is for; 56 to 71 are reserved, 0 and not read; from 72 on stand the lengths of the mine board,
+-- the shown board, the bits and the work.
 use mathlib.Core.Bool.{Bool, not}
 use mathlib.Core.List.{List, map}
 use Prim.Native.Nat.{ℕ, _+_, _*_, _-_}

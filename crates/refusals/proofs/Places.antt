@@ -4,6 +4,7 @@ use mathlib.Core.Bool.{Bool, true, false, _&&_}
 use mathlib.Core.List.{List, [], _∷_, _++_}
 use mathlib.Core.Logic.{_⊎_, inl, inr}
 use Prim.Native.Nat.{ℕ, _*_, _%_}
+use borrow.Author.Tests.{eq-eqb, ne-eqb}
 use lib.Dec.{eqb, leb, ltb}
 use lib.ListN.{length}
 use lib.IntN.{ℤ}
@@ -15,14 +16,15 @@ use Rattle.rules.specs.declared.Decoded.the-variants.{At, Bad}
 use Rattle.rules.specs.declared.GameState.{GameState}
 use Rattle.rules.specs.declared.GameState.the-variants.{Ready, Playing, Win, Loss, PreFlaging}
 use Rattle.rules.specs.Words.{pick, unless}
+use Rattle.rules.specs.States.{mouseNumber, withMiddle}
 use Rattle.rules.specs.Board.{boardRefusal, boardCheck, numberingRefusal}
 use Rattle.rules.specs.Lent.{workRoom}
 use Rattle.rules.specs.Clicks.{Desk, done}
-use Rattle.rules.specs.Mouse.{rulesOk}
+use Rattle.rules.specs.Mouse.{rulesOk, resolved, flipped}
 use Rattle.rules.specs.Step.{eventRefusal, refusalAt, plainOf, playAt, stepAt, stepBy, stepOn, pointerOf}
 use Rattle.rules.specs.Lawful.{lawfulRefusal}
-use Rattle.rules.specs.Calls.{boardsFit, workFits, modeOk, settingsRefusal, positionRefusal, positionCheck, lentRefusal, flowRefusal, setupRefusal, totalRefusal}
-use Rattle.refusals.specs.Rows.{Row, row, first, Given, boardRows, settingsRows, lawfulRows, positionRows, checkRows, lentRows, flowRows, setupRows, totalRows, numberingRows, preFlagOk, codeOk, eventRows}
+use Rattle.rules.specs.Calls.{answers, boardsFit, workFits, modeOk, settingsRefusal, positionRefusal, positionCheck, lentRefusal, flowRefusal, setupRefusal, totalRefusal, resolveBy, resolveOf}
+use Rattle.refusals.specs.Rows.{Row, row, first, Given, boardRows, settingsRows, lawfulRows, positionRows, checkRows, lentRows, flowRows, setupRows, totalRows, numberingRows, resolveRows, preFlagOk, codeOk, eventRows}
 use Rattle.refusals.proofs.Refusals.{rest-by}
 
 -- ---- any table -------------------------------------------------------------------------------------------------------------------------
@@ -143,3 +145,25 @@ module _ (B : List ℤ) (code r c : ℕ) (d : Desk) where
   unfolding stepOn stepBy stepAt
   step-at x e =
       ap (λ (y : Decoded). stepBy B code y d) e ∙ ap (λ (n : ℕ). pick (eqb n 0) (playAt B code x d) (done n d)) (event-rows code x d)
+
+-- ---- resolve: 20 to 264, then 30, then 31 ----------------------------------------------------------------------------------------------
+
+module _ (B : List ℤ) (code r c : ℕ) (d : Desk) where
+  pub resolve-unfit : (positionCheck B d ≡ 0 → ⊥) → resolveOf B code r c d .number ≡ first (checkRows B d)
+  unfolding resolveOf
+  resolve-unfit h = simp (ne-eqb _ _ h) (check-rows B d)
+
+  module _ (e : positionCheck B d ≡ 0) where
+    pub resolve-off : pointerOf (d .position .settings) r c ≡ Bad → resolveOf B code r c d ≡ answers 30 (d .position) 0
+    unfolding resolveOf resolveBy
+    resolve-off w = simp (eq-eqb _ _ e, w)
+
+    pub resolve-at : (x : Pointer) → pointerOf (d .position .settings) r c ≡ At x → resolveOf B code r c d .number ≡ first (resolveRows d)
+    unfolding resolveOf resolveBy first
+    resolve-at x w = simp (eq-eqb _ _ e, w) (go (ltb (d .position .events) 65535))
+      where
+        go : (b : Bool)
+            → pick b (answers 0 (withMiddle (d .position) (flipped code (d .position .middle)))
+            (resolved (d .position .settings .rules) code (mouseNumber (d .position .mouse)) (d .position .middle))) (answers 31 (d .position) 0) .number ≡ unless 31 b 0
+        go true = refl
+        go false = refl

@@ -78,6 +78,10 @@ numberingRows R C ms B =
     row 20 (sizeOk R C) ∷ row 21 (eqb (length B) (R * C) && eqb (length ms % 2) 0) ∷ row 42 (every (mineOk R C ms) (minesIn ms))
     ∷ row 24 (ltb (minesIn ms) (R * C)) ∷ []
 
+-- resolve's rows after these and 30
+abbrev pub resolveRows : Desk → List Row
+resolveRows d = row 31 (ltb (d .position .events) 65535) ∷ []
+
 -- 32 in Ready and PreFlaging
 abbrev pub preFlagOk : GameState → Event → Desk → Bool
 preFlagOk Ready e d = not (badPreFlag d e)

@@ -10,15 +10,17 @@ use Rattle.rules.specs.declared.Settings.{Settings}
 use Rattle.rules.specs.declared.Answer.{Answer}
 use Rattle.rules.specs.declared.Value.{Value}
 use Rattle.rules.specs.declared.Place.the-variants.{Nowhere}
+use Rattle.rules.specs.declared.Decoded.{Decoded}
+use Rattle.rules.specs.declared.Decoded.the-variants.{At, Bad}
 use Rattle.rules.specs.declared.GameState.the-variants.{Loss}
 use Rattle.rules.specs.Words.{pick, unless}
-use Rattle.rules.specs.States.{freshOf, withGame}
+use Rattle.rules.specs.States.{mouseNumber, freshOf, withGame, withMiddle}
 use Rattle.rules.specs.Board.{boardRefusal, boardCheck, faultOf, numbered, numberingRefusal}
 use Rattle.rules.specs.Lent.{bitBytes, workRoom, workAfter}
 use Rattle.rules.specs.Judging.{total3bv, leftToSolve}
 use Rattle.rules.specs.Clicks.{Desk, Play, desk, done}
-use Rattle.rules.specs.Mouse.{rulesOk}
-use Rattle.rules.specs.Step.{stepOn}
+use Rattle.rules.specs.Mouse.{rulesOk, resolved, flipped}
+use Rattle.rules.specs.Step.{pointerOf, stepOn, plainOn}
 use Rattle.rules.specs.Lawful.{countShown, isOpen, lawfulRefusal}
 
 -- an answer, and what stands in the lent buffers after the call
@@ -121,6 +123,23 @@ unfoldable pub resetOf : List ℤ → Desk → SetUp
 resetOf B d =
     setupBy (setupRefusal (d .position .settings) B (d .shown) (d .bits)) B (d .position) (d .position .settings) (d .shown) (d .bits)
 
+-- ---- resolve ---------------------------------------------------------------------------------------------------------------------------
+
+-- 30, then 31; else the plain code is the value, and `m` flips the middle flag; no event is counted
+unfoldable pub resolveBy : ℕ → Decoded → Position → Answer
+resolveBy code (At x) p =
+    pick (ltb (p .events) 65535)
+    (answers 0 (withMiddle p (flipped code (p .middle))) (resolved (p .settings .rules) code (mouseNumber (p .mouse)) (p .middle)))
+    (answers 31 p 0)
+resolveBy code Bad p = answers 30 p 0
+
+-- resolve tests 20 to 31 as the step does
+unfoldable pub resolveOf : List ℤ → ℕ → ℕ → ℕ → Desk → Answer
+resolveOf B code r c d =
+    pick (eqb (positionCheck B d) 0)
+    (resolveBy code (pointerOf (d .position .settings) r c) (d .position))
+    (refuses B (d .position) (positionCheck B d))
+
 -- ---- step ------------------------------------------------------------------------------------------------------------------------------
 
 abbrev pub outcome : Answer → List ℕ → List ℕ → List ℕ → Outcome
@@ -150,10 +169,13 @@ abbrev pub played : List ℕ → Play → List ℕ → Outcome
 played before o work =
     pick (leb 20 (o .answer)) (refused (o .answer) (o .desk) work) (accepted (o .answer) (openedIn before (o .desk .shown)) (o .desk) work)
 
--- a step tests all, 20 to 33
+-- a call that plays an event where 20 to 264 do not refuse
+abbrev pub tested : List ℤ → Desk → List ℕ → Play → Outcome
+tested B d work o = pick (eqb (lentRefusal B d work) 0) (played (d .shown) o work) (refusedAt B (lentRefusal B d work) d work)
+
+-- a step tests all, 20 to 33, and plays plain events only
 unfoldable pub stepOf : List ℤ → ℕ → ℕ → ℕ → Desk → List ℕ → Outcome
-stepOf B code r c d work =
-    pick (eqb (lentRefusal B d work) 0) (played (d .shown) (stepOn B code r c d) work) (refusedAt B (lentRefusal B d work) d work)
+stepOf B code r c d work = tested B d work (plainOn B code r c d)
 
 -- ---- step_flow -------------------------------------------------------------------------------------------------------------------------
 

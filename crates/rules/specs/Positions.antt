@@ -1,5 +1,5 @@
 -- The positions that document 01 marks P, and ten beside them, as one table and one theorem that the checker computes over the definitions; after it
--- the same for positions that are refused.
+-- the same for positions that are refused, and for events that are resolved or played as they are.
 -- Open is lc, lr; flag rc, rr. Each row is a game from its fresh start: settings, mine list, events, all that stands at its end, and what each event opened.
 use mathlib.Core.Path.{_≡_, refl}
 use mathlib.Core.Bool.{Bool, true, false, _&&_}
@@ -10,9 +10,11 @@ use lib.ListN.{getD, replicate}
 use lib.IntN.{ℤ, pos, negsuc}
 use Rattle.rules.specs.declared.Settings.{Settings}
 use Rattle.rules.specs.declared.MouseState.{MouseState}
-use Rattle.rules.specs.declared.MouseState.the-variants.{UpUp, UpDownNotFlag}
-use Rattle.rules.specs.Words.{pick, count, every, firstNot, inOrder, stackOf, rounds}
-use Rattle.rules.specs.States.{gameNumber, mouseNumber, mouseAt, freshOf, withMouse, withFlag}
+use Rattle.rules.specs.declared.MouseState.the-variants.{UpUp, UpDownNotFlag, DownUp}
+use Rattle.rules.specs.declared.GameState.{GameState}
+use Rattle.rules.specs.declared.GameState.the-variants.{Ready, Loss}
+use Rattle.rules.specs.Words.{pick, bit, count, every, firstNot, inOrder, stackOf, rounds}
+use Rattle.rules.specs.States.{gameNumber, mouseNumber, mouseAt, freshOf, withGame, withMouse, withMiddle, withEvents, withRight, withFlag}
 use Rattle.rules.specs.Grid.{sizeOk, ninth, cellBefore, neighbour, around, pushed, cellsIf}
 use Rattle.rules.specs.Board.{zeroAt, loneAt, valuesOk, numberOk, numbersOk, someSafe, boardRefusal, rowByte, columnByte, faultOf, mineOk, listedMine, numberedAt, numbered, numberingRefusal}
 use Rattle.rules.specs.Lent.{bitAt, withBit}
@@ -21,9 +23,9 @@ use Rattle.rules.specs.Judging.{freeAt, kind, walk, walkFrom, judgedLeft
 use Rattle.rules.specs.Clicks.{Desk, Play, desk, done, rowsOf, columnsOf, cellsOf, flagAt, isWon, ended, solvesLeft, leftOpens, leftClick, bitsWith, addsRce, takeBack, chordIsUseful, chordOpens, performChord}
 use Rattle.rules.specs.Passes.{remainder, allClosed, ripeAt, listed, flagOne, flagAll, flagRound, flagPass, chordOne, chordScan, chordRound, chordPass, bothRound, bothPass, passesAfterFlag, passesAfterChord, rightClick, chordingClick}
 use Rattle.rules.specs.Mouse.{mouseTable, nextMouse, moved, bothDown, rulesOk, resolved, flipped}
-use Rattle.rules.specs.Step.{seenAt, leftAt, rightAt, chordAt, chordFrom, playLc, playLr, playRc, playRr, playing, preFlag, readyLc, readyRc, ready, preLeft, preLr, preCell, preRight, preRc, preFlaging, byGame, pointerOf, eventOf, errsPlaying, errsPreFlaging, badPreFlag, eventRefusal, plainOf, refusalAt, playAt, stepAt, stepBy, stepOn}
+use Rattle.rules.specs.Step.{seenAt, leftAt, rightAt, chordAt, chordFrom, playLc, playLr, playRc, playRr, playing, preFlag, readyLc, readyRc, ready, preLeft, preLr, preCell, preRight, preRc, preFlaging, byGame, pointerOf, eventOf, errsPlaying, errsPreFlaging, badPreFlag, eventRefusal, plainOf, refusalAt, playAt, stepAt, stepBy, stepOn, plainCode, plainOn}
 use Rattle.rules.specs.Lawful.{countShown, cellLawful, shownLawful, bitsLawful, countsLawful, gameLawful, statesLawful, lawfulRefusal}
-use Rattle.rules.specs.Calls.{boardsFit, modeOk, settingsRefusal, positionRefusal, positionCheck, positionCheckOf, freshDesk, plays, lastPlay, openedIn}
+use Rattle.rules.specs.Calls.{boardsFit, modeOk, settingsRefusal, positionRefusal, positionCheck, positionCheckOf, freshDesk, resolveBy, resolveOf, plays, lastPlay, openedIn}
 use Rattle.rules.specs.Printout.{nineCounts, twoBv}
 
 pub record Row : Type 0 where
@@ -100,9 +102,9 @@ wrongRows (t ∷ ts) =
 size : ℕ → ℕ → ℕ → Bool → Settings
 size R C mode q = record { rows = R; columns = C; mode = mode; question = q; rules = 1 }
 
--- the same under rules 2
-byRules2 : Settings → Settings
-byRules2 s = record { rows = s .rows; columns = s .columns; mode = s .mode; question = s .question; rules = 2 }
+-- the same under other rules
+byRules : ℕ → Settings → Settings
+byRules n s = record { rows = s .rows; columns = s .columns; mode = s .mode; question = s .question; rules = n }
 
 row : ℕ → Settings → List ℕ → List ℕ → List ℕ → List ℤ → List ℕ → Row
 row n s mines events gives remainders opened =
@@ -179,17 +181,17 @@ table =
     -- the league's rules; 1×3, mine (0,0); open (0,1), rc (0,1), r (0,1): Playing, by rules 1 UpDownNotFlag is kept, by rules 2 it is released
     ∷ row 21 (size 1 3 0 false) (0 ∷ 0 ∷ []) (open′ 0 1 (event 2 0 1 (event 10 0 1 [])))
     (0 ∷ 1 ∷ 2 ∷ 1 ∷ 1 ∷ 0 ∷ 1 ∷ 0 ∷ 0 ∷ 0 ∷ 0 ∷ 0 ∷ 1 ∷ 1 ∷ 10 ∷ 1 ∷ 10 ∷ []) (pos 1 ∷ []) (0 ∷ 1 ∷ 0 ∷ 0 ∷ [])
-    ∷ row 22 (byRules2 (size 1 3 0 false)) (0 ∷ 0 ∷ []) (open′ 0 1 (event 2 0 1 (event 10 0 1 [])))
+    ∷ row 22 (byRules 2 (size 1 3 0 false)) (0 ∷ 0 ∷ []) (open′ 0 1 (event 2 0 1 (event 10 0 1 [])))
     (0 ∷ 1 ∷ 0 ∷ 1 ∷ 1 ∷ 0 ∷ 1 ∷ 0 ∷ 0 ∷ 0 ∷ 0 ∷ 0 ∷ 1 ∷ 1 ∷ 10 ∷ 1 ∷ 10 ∷ []) (pos 1 ∷ []) (0 ∷ 1 ∷ 0 ∷ 0 ∷ [])
     -- flag (0,1), rc off the board, r (0,0): PreFlaging, by rules 1 a press, 33, by rules 2 a release
     ∷ row 23 (size 1 3 0 false) (0 ∷ 0 ∷ []) (flag′ 0 1 (event 2 1 3 (event 10 0 0 [])))
     (33 ∷ 4 ∷ 2 ∷ 0 ∷ 2 ∷ 0 ∷ 0 ∷ 0 ∷ 0 ∷ 1 ∷ 0 ∷ 0 ∷ 1 ∷ 1 ∷ 10 ∷ 11 ∷ 10 ∷ []) [] (0 ∷ 0 ∷ 0 ∷ 0 ∷ [])
-    ∷ row 24 (byRules2 (size 1 3 0 false)) (0 ∷ 0 ∷ []) (flag′ 0 1 (event 2 1 3 (event 10 0 0 [])))
+    ∷ row 24 (byRules 2 (size 1 3 0 false)) (0 ∷ 0 ∷ []) (flag′ 0 1 (event 2 1 3 (event 10 0 0 [])))
     (0 ∷ 4 ∷ 0 ∷ 0 ∷ 2 ∷ 0 ∷ 0 ∷ 0 ∷ 0 ∷ 1 ∷ 0 ∷ 0 ∷ 1 ∷ 1 ∷ 10 ∷ 11 ∷ 10 ∷ []) [] (0 ∷ 0 ∷ 0 ∷ 0 ∷ [])
     ∷ []
 
 pub positions : wrongRows table ≡ []
-unfolding wrongRows same eqz remaindersIn played last openedFrom countShown ends told fresh table row size byRules2 open′ flag′ event count every inOrder stackOf rounds mouseAt sizeOk ninth cellBefore neighbour
+unfolding wrongRows same eqz remaindersIn played last openedFrom countShown ends told fresh table row size byRules open′ flag′ event count every inOrder stackOf rounds mouseAt sizeOk ninth cellBefore neighbour
     around cellsIf pushed zeroAt loneAt mineOk listedMine numberedAt numbered numberingRefusal bitAt withBit shownAfter stackAfter hitAfter run crossed refreshed freeAt
     kind walk walkFrom judgedLeft judgeOne tally openingsJudged lones bvOf total3bv notOpenAt leftToSolve isWon ended solvesLeft leftOpens leftClick bitsWith addsRce takeBack
     chordIsUseful chordOpens performChord allClosed ripeAt listed flagOne flagAll flagRound flagPass chordOne chordScan chordRound chordPass bothRound bothPass
@@ -257,3 +259,70 @@ unfolding wrongTyped same checked typedTable typed numbers right-numbers size po
     numbersOk numberOk someSafe faultOf firstNot every count around neighbour ninth cellBefore lawfulRefusal shownLawful cellLawful bitsLawful bitAt
     countsLawful countShown statesLawful gameLawful rulesOk
 typed-positions = refl
+
+-- ---- resolving, and plain events -------------------------------------------------------------------------------------------------------
+
+-- an event at a desk: its code, row and column; what resolve says of it, number, value and middle flag; and what the plain step does, answer, middle
+-- flag and events
+pub record Handed : Type 0 where
+  pub name : ℕ
+  pub desk : Desk
+  pub code : ℕ
+  pub row : ℕ
+  pub column : ℕ
+  pub resolves : List ℕ
+  pub plays : List ℕ
+
+unfoldable resolving : Handed → List ℕ
+resolving t =
+    let a = resolveOf right-numbers (t .code) (t .row) (t .column) (t .desk) in
+    a .number ∷ a .value ∷ bit (a .position .middle) ∷ []
+
+unfoldable playingPlain : Handed → List ℕ
+playingPlain t =
+    let o = plainOn right-numbers (t .code) (t .row) (t .column) (t .desk) in
+    o .answer ∷ bit (o .desk .position .middle) ∷ o .desk .position .events ∷ []
+
+-- the names of the rows that do not hold
+pub wrongHanded : List Handed → List ℕ
+wrongHanded [] = []
+wrongHanded (t ∷ ts) =
+    let more = wrongHanded ts in
+    pick (same eqb (resolving t) (t .resolves) && same eqb (playingPlain t) (t .plays)) more (t .name ∷ more)
+
+-- 3×3, mine (2,2), every cell closed, in a game state, a mouse state, with the middle flag, and with so many right clicks among as many events
+hand : GameState → MouseState → Bool → ℕ → Settings → Desk
+hand game mouse middle n s =
+    desk (withEvents (withRight (withMiddle (withMouse (withGame (freshOf s) game) mouse) middle) n) n) (replicate 9 10) (0 ∷ 0 ∷ [])
+
+handed : ℕ → Desk → ℕ → ℕ → ℕ → List ℕ → List ℕ → Handed
+handed n d code r c resolves plays = record { name = n; desk = d; code = code; row = r; column = c; resolves = resolves; plays = plays }
+
+pub handTable : List Handed
+handTable =
+    -- l is a press, and in DownUp a release; to the plain step it is unknown
+    handed 1 (hand Ready UpUp false 0 (size 3 3 0 false)) 9 0 0 (0 ∷ 0 ∷ 0 ∷ []) (33 ∷ 0 ∷ 0 ∷ [])
+    ∷ handed 2 (hand Ready DownUp false 0 (size 3 3 0 false)) 9 0 0 (0 ∷ 1 ∷ 0 ∷ []) (33 ∷ 0 ∷ 0 ∷ [])
+    -- m flips the middle flag, in Loss too; there the plain step answers 0, counts one event and flips nothing
+    ∷ handed 3 (hand Ready UpUp false 0 (size 3 3 0 false)) 11 0 0 (0 ∷ 5 ∷ 1 ∷ []) (33 ∷ 0 ∷ 0 ∷ [])
+    ∷ handed 4 (hand Ready UpUp true 0 (size 3 3 0 false)) 11 0 0 (0 ∷ 6 ∷ 0 ∷ []) (33 ∷ 1 ∷ 0 ∷ [])
+    ∷ handed 5 (hand Loss UpUp false 0 (size 3 3 0 false)) 11 0 0 (0 ∷ 5 ∷ 1 ∷ []) (0 ∷ 0 ∷ 1 ∷ [])
+    ∷ handed 6 (hand Loss UpUp true 0 (size 3 3 0 false)) 11 0 0 (0 ∷ 6 ∷ 0 ∷ []) (0 ∷ 1 ∷ 1 ∷ [])
+    -- every other code comes back as it came
+    ∷ handed 7 (hand Ready UpUp true 0 (size 3 3 0 false)) 200 0 0 (0 ∷ 200 ∷ 1 ∷ []) (33 ∷ 1 ∷ 0 ∷ [])
+    ∷ handed 8 (hand Ready UpUp false 0 (size 3 3 0 false)) 4 0 0 (0 ∷ 4 ∷ 0 ∷ []) (0 ∷ 0 ∷ 1 ∷ [])
+    -- m at (0,3) is 30 and flips nothing; at (3,3) it flips; after 65,535 events it is 31
+    ∷ handed 9 (hand Ready UpUp true 0 (size 3 3 0 false)) 11 0 3 (30 ∷ 0 ∷ 1 ∷ []) (30 ∷ 1 ∷ 0 ∷ [])
+    ∷ handed 10 (hand Ready UpUp false 0 (size 3 3 0 false)) 11 3 3 (0 ∷ 5 ∷ 1 ∷ []) (33 ∷ 0 ∷ 0 ∷ [])
+    ∷ handed 11 (hand Ready UpUp true 65535 (size 3 3 0 false)) 11 0 0 (31 ∷ 0 ∷ 1 ∷ []) (31 ∷ 1 ∷ 65535 ∷ [])
+    -- r in UpDownNotFlag by rules 1 and by rules 2; rules 3 are 264
+    ∷ handed 12 (hand Loss UpDownNotFlag false 1 (size 3 3 0 false)) 10 0 0 (0 ∷ 2 ∷ 0 ∷ []) (0 ∷ 0 ∷ 2 ∷ [])
+    ∷ handed 13 (hand Loss UpDownNotFlag false 1 (byRules 2 (size 3 3 0 false))) 10 0 0 (0 ∷ 3 ∷ 0 ∷ []) (0 ∷ 0 ∷ 2 ∷ [])
+    ∷ handed 14 (hand Ready UpUp true 0 (byRules 3 (size 3 3 0 false))) 11 0 0 (264 ∷ 0 ∷ 1 ∷ []) (33 ∷ 1 ∷ 0 ∷ [])
+    ∷ []
+
+pub handed-positions : wrongHanded handTable ≡ []
+unfolding wrongHanded same resolving playingPlain handTable handed hand right-numbers numbers size byRules resolveOf resolveBy plainCode positionCheck positionRefusal settingsRefusal boardsFit
+    modeOk boardRefusal sizeOk valuesOk numbersOk numberOk someSafe every count around neighbour ninth cellBefore lawfulRefusal shownLawful cellLawful bitsLawful bitAt
+    countsLawful countShown statesLawful gameLawful rulesOk faultOf bothDown resolved flipped byGame ready pointerOf eventOf badPreFlag eventRefusal plainOf refusalAt playAt stepAt stepBy stepOn
+handed-positions = refl

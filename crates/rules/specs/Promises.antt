@@ -9,7 +9,7 @@ use Rattle.rules.specs.declared.Settings.{Settings}
 use Rattle.rules.specs.declared.Answer.{Answer}
 use Rattle.rules.specs.declared.Value.{Value}
 use Rattle.rules.specs.Clicks.{desk}
-use Rattle.rules.specs.Calls.{Numbered, Totalled, Asked, setUp, outcome, numberingOf, totalOf, boardCheckOf, setupOf, resetOf, positionCheckOf, stepOf, flowOf, gameStateOf, bbbvSolvedOf, leftToSolveOf}
+use Rattle.rules.specs.Calls.{Numbered, Totalled, Asked, setUp, outcome, numberingOf, totalOf, boardCheckOf, setupOf, resetOf, positionCheckOf, resolveOf, stepOf, flowOf, gameStateOf, bbbvSolvedOf, leftToSolveOf}
 
 -- an outcome: what is answered, with what the lent lists are then
 abbrev pub numbers : ℕ → List ℤ → Numbered
@@ -38,6 +38,9 @@ ResetIs p B shown bits r shown′ bits′ = setUp r shown′ bits′ ≡ resetOf
 
 abbrev pub CheckPositionIs : Position → List ℤ → List ℕ → List ℕ → Value → Type 0
 CheckPositionIs p B shown bits r = r ≡ positionCheckOf B (desk p shown bits)
+
+abbrev pub ResolveIs : Position → ℕ → ℕ → ℕ → List ℤ → List ℕ → List ℕ → Answer → Type 0
+ResolveIs p code row column B shown bits r = r ≡ resolveOf B code row column (desk p shown bits)
 
 abbrev pub StepIs : Position → ℕ → ℕ → ℕ → List ℤ → List ℕ → List ℕ → List ℕ → Answer → List ℕ → List ℕ → List ℕ → Type 0
 StepIs p code row column B shown bits work r shown′ bits′ work′ = outcome r shown′ bits′ work′ ≡ stepOf B code row column (desk p shown bits) work

@@ -1,4 +1,4 @@
--- One event in each of the five game states: what it answers and leaves, and the refusals 30 to 33.
+-- One event in each of the five game states: what it answers and leaves, and the refusals 30 to 33; resolved first, or plain.
 use mathlib.Core.Bool.{Bool, true, false, not, _&&_, _||_}
 use mathlib.Core.List.{List}
 use Prim.Native.Nat.{ℕ, _+_, _-_}
@@ -291,6 +291,14 @@ unfoldable pub stepBy : List ℤ → ℕ → Decoded → Desk → Play
 stepBy B code (At x) d = stepAt B code x d
 stepBy B code Bad d = done 30 d
 
--- THE step at a desk whose board and position are in order: 30 to 33, or the event
+-- THE event of a game at a desk whose board and position are in order: 30 to 33, or it is resolved and played
 unfoldable pub stepOn : List ℤ → ℕ → ℕ → ℕ → Desk → Play
 stepOn B code r c d = stepBy B code (pointerOf (d .position .settings) r c) d
+
+-- `l`, `r` and `m` are no plain codes: where plain events only are played they are unknown ones, as 12 is
+unfoldable pub plainCode : ℕ → ℕ
+plainCode code = pick (leb 9 code && leb code 11) 12 code
+
+-- the plain step: the event of a plain code, with nothing to resolve
+abbrev pub plainOn : List ℤ → ℕ → ℕ → ℕ → Desk → Play
+plainOn B code r c d = stepOn B (plainCode code) r c d

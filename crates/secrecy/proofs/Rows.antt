@@ -1,7 +1,7 @@
 -- Whatever is played in a row from a fresh start, twins run alike if each move is quiet: by induction from the end. Assumes nothing.
 use mathlib.Core.Path.{_≡_, refl, sym, ap, _∙_, subst}
 use mathlib.Core.Logic.{_⊎_, inl, inr}
-use mathlib.Core.List.{List, [], _∷_}
+use mathlib.Core.List.{List, [], _∷_, map}
 use mathlib.Core.Bool.{Bool, true, false, false≢true}
 use Prim.Native.Nat.{ℕ, _*_, _<_}
 use native.Mathlib.Omega.{arith}
@@ -28,6 +28,10 @@ pub record Move : Type 0 where
   pub play : List ℤ → Desk → Play
   pub quiet : (d : Desk) → Quiet aPlay (lostIn d) (d .shown) (λ B h. play B (over d h))
 
+-- a play with nothing hidden
+abbrev pub bared : Play → Play
+bared o = aPlay .put o bare
+
 -- each move is made on the desk that the one before left
 unfoldable pub rowOf : List ℤ → List Move → Desk → List Play
 rowOf B [] d = []
@@ -52,26 +56,31 @@ module _ (B : List ℤ) (v : Valued B) where
 
 module _ (A B : List ℤ) (two : Two A B) where
   move-same : (m : Move) (d e : Desk) → over d bare ≡ over e bare → InvIn A d → InvIn B e → AgreeIn A B (m .play A d .desk)
-      → aPlay .put (m .play A d) bare ≡ aPlay .put (m .play B e) bare
+      → bared (m .play A d) ≡ bared (m .play B e)
   move-same m d e q ia ib agree =
       let ib′ : InvIn B d = subst (InvIn B) (sym q) ib in
       let e′ : over d (hiddenOf e) ≡ e = ap (λ (x : Desk). over x (hiddenOf e)) q in
-      m .quiet d .same A B (hiddenOf d) (hiddenOf e) two ia ib′ agree ∙ ap (λ (x : Desk). aPlay .put (m .play B x) bare) e′
+      m .quiet d .same A B (hiddenOf d) (hiddenOf e) two ia ib′ agree ∙ ap (λ (x : Desk). bared (m .play B x)) e′
 
-  row-same : (ms : List Move) (d e : Desk) → over d bare ≡ over e bare → InvIn A d → InvIn B e → AgreeIn A B (lastDesk d (rowOf A ms d))
-      → seenAll (d .shown) (rowOf A ms d) ≡ seenAll (e .shown) (rowOf B ms e)
-  unfolding rowOf lastDesk seenAll
-  row-same [] d e q ia ib agree = refl
-  row-same (m ∷ ms) d e q ia ib agree =
+  -- every play is the same but for what it hides
+  row-alike : (ms : List Move) (d e : Desk) → over d bare ≡ over e bare → InvIn A d → InvIn B e → AgreeIn A B (lastDesk d (rowOf A ms d))
+      → map bared (rowOf A ms d) ≡ map bared (rowOf B ms e)
+  unfolding rowOf lastDesk
+  row-alike [] d e q ia ib agree = refl
+  row-alike (m ∷ ms) d e q ia ib agree =
       let o = m .play A d in
       let p = m .play B e in
       let ja = move-keeps A (two .valuedA) m d ia in
       let jb = move-keeps B (two .valuedB) m e ib in
-      let one : aPlay .put o bare ≡ aPlay .put p bare = move-same m d e q ia ib (λ j k. agree j (row-knows A (two .valuedA) ms (o .desk) ja j k)) in
-      let rest = seenAll (o .desk .shown) (rowOf A ms (o .desk)) in
-      ap (λ (x : Play). seen (d .shown) x ∷ rest) one
-      ∙ (ap (λ (x : Desk). seen (x .shown) p ∷ rest) q
-      ∙ ap (λ (l : List Seen). seen (e .shown) p ∷ l) (row-same ms (o .desk) (p .desk) (ap (λ (x : Play). x .desk) one) ja jb agree))
+      let one : bared o ≡ bared p = move-same m d e q ia ib (λ j k. agree j (row-knows A (two .valuedA) ms (o .desk) ja j k)) in
+      ap (λ (x : Play). x ∷ map bared (rowOf A ms (o .desk))) one
+      ∙ ap (λ (l : List Play). bared p ∷ l) (row-alike ms (o .desk) (p .desk) (ap (λ (x : Play). x .desk) one) ja jb agree)
+
+-- what is hidden is not seen
+pub seen-bared : (before : List ℕ) (os : List Play) → seenAll before os ≡ seenAll before (map bared os)
+unfolding seenAll
+seen-bared before [] = refl
+seen-bared before (o ∷ os) = ap (λ (l : List Seen). seen before o ∷ l) (seen-bared (o .desk .shown) os)
 
 -- ---- the fresh start ---------------------------------------------------------------------------------------------------------------------
 
@@ -111,10 +120,10 @@ off-board A B j e f = go (on-board A j) (on-board B j)
     go (inr z) (inl l) = f (rw e l)
     go (inr z) (inr w) = z ∙ sym w
 
--- twins cannot be told apart by quiet moves
-pub row-secrecy : (ms : List Move) (s : Settings) (A B : List ℤ) → Twins s (endOf s (rowOf A ms (freshDesk s))) A B
-    → seenOf s (rowOf A ms (freshDesk s)) ≡ seenOf s (rowOf B ms (freshDesk s))
-row-secrecy ms s A B tw = row-same A B two ms (freshDesk s) (freshDesk s) refl ia (fresh-inv s B (b .0)) agree
+-- twins cannot be told apart by quiet moves: every play is the same but for what it hides
+pub twins-alike : (ms : List Move) (s : Settings) (A B : List ℤ) → Twins s (endOf s (rowOf A ms (freshDesk s))) A B
+    → map bared (rowOf A ms (freshDesk s)) ≡ map bared (rowOf B ms (freshDesk s))
+twins-alike ms s A B tw = row-alike A B two ms (freshDesk s) (freshDesk s) refl ia (fresh-inv s B (b .0)) agree
   where
     a : (length A ≡ cellsIn s) × Valued A
     a = checked (s .rows) (s .columns) A (tw .first)
@@ -151,3 +160,11 @@ row-secrecy ms s A B tw = row-same A B two ms (freshDesk s) (freshDesk s) refl i
 
     agree : AgreeIn A B end
     agree j k = off-board A B j (two .size) (λ l. known-same j (rw (a .0) at l) k)
+
+-- so what is seen of them is the same
+pub row-secrecy : (ms : List Move) (s : Settings) (A B : List ℤ) → Twins s (endOf s (rowOf A ms (freshDesk s))) A B
+    → seenOf s (rowOf A ms (freshDesk s)) ≡ seenOf s (rowOf B ms (freshDesk s))
+row-secrecy ms s A B tw =
+    let before = freshDesk s .shown in
+    seen-bared before (rowOf A ms (freshDesk s))
+    ∙ (ap (seenAll before) (twins-alike ms s A B tw) ∙ sym (seen-bared before (rowOf B ms (freshDesk s))))

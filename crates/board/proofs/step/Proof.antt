@@ -1,9 +1,9 @@
--- `board::step` meets its contract.
-use mathlib.Core.Path.{_∙_, sym}
+use mathlib.Core.Path.{_∙_, sym, refl}
 use native.Mathlib.Omega.{arith}
 use Rattle.rules.specs.Clicks.{desk}
+use Rattle.rules.specs.Step.{plainCode}
 use Rattle.keep.proofs.Step.{pointer-inside}
-use Rattle.game.proofs.Steps.{step-bad, step-decoded, resolved-asks, resolved-refused, resolved-played}
+use Rattle.game.proofs.Steps.{step-bad, step-decoded, plain-resolved, resolved-asks, resolved-refused, resolved-played}
 use Rattle.refusals.proofs.Faults.{lent-placeable}
 use Rattle.board.proofs.Stepping.{step-unfit, step-heard, step-done, settings-kept, played-small, refused-large, lent-room, lent-kept}
 use borrow.Author.Needs.{needs}
@@ -51,10 +51,10 @@ same-length-6 c = search needs
 
 returns-2 : tie.Need-returns-2
 returns-2 c = let a = (c .before .before .before .before .before .before .before .before .before .before .before .before .before .args) in
-    step-heard _ (a .code) (a .row) (a .column) (a .p) _ _ _ _ (c .before .before .before .before .before .before .lent-refusal .ensures) 30 _ (c .before .before .before .before .before .if1 .left) (step-bad _ (a .code) (a .row) (a .column) (a .p) _ _ _ (c .before .before .before .decode .ensures) (c .before .enum-told .given .1)) (omega arith) (c .answer .ensures)
+    step-heard _ (a .code) (a .row) (a .column) (a .p) _ _ _ _ (c .before .before .before .before .before .before .lent-refusal .ensures) 30 _ (c .before .before .before .before .before .if1 .left) (step-bad _ (plainCode (a .code)) (a .row) (a .column) (a .p) _ _ _ (c .before .before .before .decode .ensures) (c .before .enum-told .given .1)) (omega arith) (c .answer .ensures)
 
-resolve-at-requires : tie.Need-resolve-at-requires
-resolve-at-requires c κs = search needs
+plain-event-requires : tie.Need-plain-event-requires
+plain-event-requires c κs = search needs
 
 refusal-of-requires : tie.Need-refusal-of-requires
 refusal-of-requires c κs = search needs
@@ -74,20 +74,18 @@ same-length-9 c = search needs
 returns-3 : tie.Need-returns-3
 returns-3 c = let a = (c .before .before .before .before .before .before .before .before .before .before .before .before .before .before .before .before .before .before .args) in
     let k = c .before .before .refusal-of .ensures (a .bits .now) in
-    let s = resolved-refused (a .mines .now) (a .code) _ (a .p) (a .shown .now) (a .bits .now) (c .before .before .before .before .resolve-at .result) (c .before .before .before .before .resolve-at .ensures _ _) _ k (c .before .if2 .taken) ∙ sym (step-decoded _ (a .code) (a .row) (a .column) (a .p) _ _ _ (c .before .before .before .before .before .before .before .before .decode .ensures) _ (c .before .before .before .before .before .before .x .given .1)) in
-    step-heard _ (a .code) (a .row) (a .column) (a .p) _ _ _ _ (c .before .before .before .before .before .before .before .before .before .before .before .lent-refusal .ensures) _ _ (c .before .before .before .before .before .before .before .before .before .before .if1 .left) s (refused-large (c .before .before .before .before .resolve-at .result .event) (desk (a .p) (a .shown .now) (a .bits .now)) _ k (c .before .if2 .taken)) (c .answer2 .ensures)
+    let e = plain-resolved (a .code) _ (a .p) (a .shown .now) (a .bits .now) _ (c .before .before .before .before .plain-event .ensures) in
+    let s = resolved-refused (a .mines .now) (plainCode (a .code)) _ (a .p) (a .shown .now) (a .bits .now) _ e _ k (c .before .if2 .taken) ∙ sym (step-decoded _ (plainCode (a .code)) (a .row) (a .column) (a .p) _ _ _ (c .before .before .before .before .before .before .before .before .decode .ensures) _ (c .before .before .before .before .before .before .x .given .1)) in
+    step-heard _ (a .code) (a .row) (a .column) (a .p) _ _ _ _ (c .before .before .before .before .before .before .before .before .before .before .before .lent-refusal .ensures) _ _ (c .before .before .before .before .before .before .before .before .before .before .if1 .left) s (refused-large (c .before .before .before .before .plain-event .result) (desk (a .p) (a .shown .now) (a .bits .now)) _ k (c .before .if2 .taken)) (c .answer2 .ensures)
 
 blank-requires : tie.Need-blank-requires
 blank-requires c κs = let a = (c .before .before .before .before .before .before .before .before .before .before .before .before .before .before .before .before .before .before .args) in lent-room _ (desk (a .p) (a .shown .now) (a .bits .now)) _ _ (c .before .before .before .before .before .before .before .before .before .before .before .lent-refusal .ensures) (c .before .before .before .before .before .before .before .before .before .before .if1 .left)
 
-with-middle-requires : tie.Need-with-middle-requires
-with-middle-requires c κs = search needs
-
 play-event-requires : tie.Need-play-event-requires
-play-event-requires c κs = let a = (c .before .before .before .before .before .before .before .before .before .before .before .before .before .before .before .before .before .before .before .before .before .before .before .before .before .args) in
-    let l = lent-kept _ (desk (a .p) (a .shown .now) (a .bits .now)) _ _ (c .before .before .before .before .before .before .before .before .before .before .before .before .before .before .before .before .before .before .lent-refusal .ensures) (c .before .before .before .before .before .before .before .before .before .before .before .before .before .before .before .before .before .if1 .left) in
-    let i = pointer-inside (a .p .settings) (a .row) (a .column) _ (sym (c .before .before .before .before .before .before .before .before .before .before .before .before .before .before .before .decode .ensures) ∙ c .before .before .before .before .before .before .before .before .before .before .before .before .before .x .given .1) in
-    resolved-asks (a .mines .now) (a .code) _ (a .p) (a .shown .now) (a .bits .now) (c .before .before .before .before .before .before .before .before .before .before .before .resolve-at .result) (c .before .before .before .before .before .before .before .before .before .before .before .resolve-at .ensures _ _) _ _ (c .before .before .before .with-middle .ensures) l (c .before .before .before .before .before .before .blank .ensures .blank) i
+play-event-requires c κs = let a = (c .before .before .before .before .before .before .before .before .before .before .before .before .before .before .before .before .before .before .before .before .before .before .before .before .args) in
+    let l = lent-kept _ (desk (a .p) (a .shown .now) (a .bits .now)) _ _ (c .before .before .before .before .before .before .before .before .before .before .before .before .before .before .before .before .before .lent-refusal .ensures) (c .before .before .before .before .before .before .before .before .before .before .before .before .before .before .before .before .if1 .left) in
+    let i = pointer-inside (a .p .settings) (a .row) (a .column) _ (sym (c .before .before .before .before .before .before .before .before .before .before .before .before .before .before .decode .ensures) ∙ c .before .before .before .before .before .before .before .before .before .before .before .before .x .given .1) in
+    resolved-asks (a .mines .now) (plainCode (a .code)) _ (a .p) (a .shown .now) (a .bits .now) _ (plain-resolved (a .code) _ (a .p) (a .shown .now) (a .bits .now) _ (c .before .before .before .before .before .before .before .before .before .before .plain-event .ensures)) (a .p) _ refl l (c .before .before .before .before .before .blank .ensures .blank) i
 
 answer-requires-3 : tie.Need-answer-requires-3
 answer-requires-3 c κs = search needs
@@ -102,13 +100,14 @@ same-length-12 : tie.Need-same-length-12
 same-length-12 c = search needs
 
 returns-4 : tie.Need-returns-4
-returns-4 c = let a = (c .before .before .before .before .before .before .before .before .before .before .before .before .before .before .before .before .before .before .before .before .before .before .before .before .before .before .before .before .before .before .before .before .before .before .args) in
+returns-4 c = let a = (c .before .before .before .before .before .before .before .before .before .before .before .before .before .before .before .before .before .before .before .before .before .before .before .before .before .before .before .before .before .before .before .before .before .args) in
     let d = desk (a .p) (a .shown .now) (a .bits .now) in
     let o = c .before .before .before .before .before .before .before .before .play-event .ensures in
-    let k = c .before .before .before .before .before .before .before .before .before .before .before .before .before .before .before .before .before .before .refusal-of .ensures (a .bits .now) in
-    let s = o .outcome ∙ sym (step-decoded _ (a .code) (a .row) (a .column) (a .p) _ _ _ (c .before .before .before .before .before .before .before .before .before .before .before .before .before .before .before .before .before .before .before .before .before .before .before .before .decode .ensures) _ (c .before .before .before .before .before .before .before .before .before .before .before .before .before .before .before .before .before .before .before .before .before .before .x .given .1) ∙ resolved-played (a .mines .now) (a .code) _ (a .p) (a .shown .now) (a .bits .now) (c .before .before .before .before .before .before .before .before .before .before .before .before .before .before .before .before .before .before .before .before .resolve-at .result) (c .before .before .before .before .before .before .before .before .before .before .before .before .before .before .before .before .before .before .before .before .resolve-at .ensures _ _) _ k (c .before .before .before .before .before .before .before .before .before .before .before .before .before .before .before .before .before .if2 .left) _ (c .before .before .before .before .before .before .before .before .before .before .before .before .with-middle .ensures)) in
-    step-done _ (a .code) (a .row) (a .column) (a .p) _ _ _ _ (c .before .before .before .before .before .before .before .before .before .before .before .before .before .before .before .before .before .before .before .before .before .before .before .before .before .before .before .lent-refusal .ensures) _ _ _ _ _ _ _ (c .before .before .before .before .before .before .before .before .before .before .before .before .before .before .before .before .before .before .before .before .before .before .before .before .before .before .if1 .left) s (played-small _ (c .before .before .before .before .before .before .before .before .before .before .before .before .before .before .before .before .before .before .before .before .resolve-at .result .event) (desk (c .before .before .before .before .before .before .before .before .before .before .before .before .with-middle .result) (a .shown .now) (a .bits .now)) _ _ (o .outcome)) (o .same ∙ c .before .before .before .before .before .before .before .before .before .before .before .before .before .before .before .blank .ensures .cleared)
-    (settings-kept _ (a .code) (a .row) (a .column) (a .p) _ _ _ _ _ _ (lent-kept _ d _ _ (c .before .before .before .before .before .before .before .before .before .before .before .before .before .before .before .before .before .before .before .before .before .before .before .before .before .before .before .lent-refusal .ensures) (c .before .before .before .before .before .before .before .before .before .before .before .before .before .before .before .before .before .before .before .before .before .before .before .before .before .before .if1 .left)) s) (o .opened) (c .answer3 .ensures)
+    let k = c .before .before .before .before .before .before .before .before .before .before .before .before .before .before .before .before .before .refusal-of .ensures (a .bits .now) in
+    let e = plain-resolved (a .code) _ (a .p) (a .shown .now) (a .bits .now) _ (c .before .before .before .before .before .before .before .before .before .before .before .before .before .before .before .before .before .before .before .plain-event .ensures) in
+    let s = o .outcome ∙ sym (step-decoded _ (plainCode (a .code)) (a .row) (a .column) (a .p) _ _ _ (c .before .before .before .before .before .before .before .before .before .before .before .before .before .before .before .before .before .before .before .before .before .before .before .decode .ensures) _ (c .before .before .before .before .before .before .before .before .before .before .before .before .before .before .before .before .before .before .before .before .before .x .given .1) ∙ resolved-played (a .mines .now) (plainCode (a .code)) _ (a .p) (a .shown .now) (a .bits .now) _ e _ k (c .before .before .before .before .before .before .before .before .before .before .before .before .before .before .before .before .if2 .left) (a .p) refl) in
+    step-done _ (a .code) (a .row) (a .column) (a .p) _ _ _ _ (c .before .before .before .before .before .before .before .before .before .before .before .before .before .before .before .before .before .before .before .before .before .before .before .before .before .before .lent-refusal .ensures) _ _ _ _ _ _ _ (c .before .before .before .before .before .before .before .before .before .before .before .before .before .before .before .before .before .before .before .before .before .before .before .before .before .if1 .left) s (played-small _ (c .before .before .before .before .before .before .before .before .before .before .before .before .before .before .before .before .before .before .before .plain-event .result) d _ _ (o .outcome)) (o .same ∙ c .before .before .before .before .before .before .before .before .before .before .before .before .before .before .blank .ensures .cleared)
+    (settings-kept _ (a .code) (a .row) (a .column) (a .p) _ _ _ _ _ _ (lent-kept _ d _ _ (c .before .before .before .before .before .before .before .before .before .before .before .before .before .before .before .before .before .before .before .before .before .before .before .before .before .before .lent-refusal .ensures) (c .before .before .before .before .before .before .before .before .before .before .before .before .before .before .before .before .before .before .before .before .before .before .before .before .before .if1 .left)) s) (o .opened) (c .answer3 .ensures)
 
 pub step-spec : {M : Type 1} → statement M
 step-spec =
@@ -128,7 +127,7 @@ step-spec =
     same-length-5
     same-length-6
     returns-2
-    resolve-at-requires
+    plain-event-requires
     refusal-of-requires
     answer-requires-2
     same-length-7
@@ -136,7 +135,6 @@ step-spec =
     same-length-9
     returns-3
     blank-requires
-    with-middle-requires
     play-event-requires
     answer-requires-3
     same-length-10

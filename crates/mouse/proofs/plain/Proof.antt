@@ -4,18 +4,15 @@ use Rattle.rules.specs.Step.{plainOf}
 use Rattle.mouse.proofs.plain.Statement.{statement}
 use Rattle.mouse.proofs.plain.Tie as tie
 
-mouse-number-requires : tie.Need-mouse-number-requires
-mouse-number-requires c κs = search needs
-
-resolve-requires : tie.Need-resolve-requires
-resolve-requires c κs = search needs
+code-at-requires : tie.Need-code-at-requires
+code-at-requires c κs = search needs
 
 event-of-requires : tie.Need-event-of-requires
 event-of-requires c κs = search needs
 
 returns : tie.Need-returns
 unfolding plainOf
-returns c = λ shown bits. simp (← (c .before .before .mouse-number .ensures), ← (c .before .resolve .ensures)) (c .event-of .ensures)
+returns c = λ shown bits. simp (← (c .before .code-at .ensures)) (c .event-of .ensures)
 
 pub plain-spec : {M : Type 1} → statement M
-plain-spec = tie.close (tie.spec mouse-number-requires resolve-requires event-of-requires returns)
+plain-spec = tie.close (tie.spec code-at-requires event-of-requires returns)

@@ -1,7 +1,6 @@
--- `telling::tell_step` meets its contract: what the step leaves is told, and it keeps the lengths.
 use native.Mathlib.Omega.{arith}
-use borrow.Author.Needs.{needs}
 use Rattle.telling.proofs.Telling.{step-told}
+use borrow.Author.Needs.{needs}
 use Rattle.telling.proofs.tell_step.Statement.{statement}
 use Rattle.telling.proofs.tell_step.Tie as tie
 
@@ -11,20 +10,23 @@ sign-all-requires c κs = search needs
 position-in-requires : tie.Need-position-in-requires
 position-in-requires c κs = search needs
 
-element-copy-out-step : tie.Need-element-copy-out-step
-element-copy-out-step c = search needs
+element-copy-out-call : tie.Need-element-copy-out-call
+element-copy-out-call c = search needs
 
-element-copy-out-step-2 : tie.Need-element-copy-out-step-2
-element-copy-out-step-2 c = search needs
+element-copy-out-call-2 : tie.Need-element-copy-out-call-2
+element-copy-out-call-2 c = search needs
 
-element-copy-out-step-3 : tie.Need-element-copy-out-step-3
-element-copy-out-step-3 c = search needs
+element-copy-out-call-3 : tie.Need-element-copy-out-call-3
+element-copy-out-call-3 c = search needs
 
-step-requires : tie.Need-step-requires
-step-requires c κs = search needs
+element-copy-out-call-4 : tie.Need-element-copy-out-call-4
+element-copy-out-call-4 c = search needs
+
+call-requires : tie.Need-call-requires
+call-requires c κs = search needs
 
 put-outcome-requires : tie.Need-put-outcome-requires
-put-outcome-requires c κs = let s = c .before .before .before .before .before .before .before .before .before .step .kept .1 .1 .1 .1 .1 .0 in let b = c .before .before .before .before .before .before .before .before .before .step .kept .1 .1 .1 .1 .1 .1 .0 in let p = c .before .before .before .before .before .before .before .before .before .before .before .before .before .before .before .before .before .before .before .before .before .before .before .before .before .before .pre .1 in omega arith
+put-outcome-requires c κs = let s = c .before .before .before .before .before .before .before .before .before .call .kept .1 .1 .1 .1 .1 .1 .0 in let b = c .before .before .before .before .before .before .before .before .before .call .kept .1 .1 .1 .1 .1 .1 .1 .0 in let p = c .before .before .before .before .before .before .before .before .before .before .before .before .before .before .before .before .before .before .before .before .before .before .before .before .before .before .before .pre .1 in omega arith
 
 same-length : tie.Need-same-length
 same-length c = search needs
@@ -42,7 +44,9 @@ same-length-5 : tie.Need-same-length-5
 same-length-5 c = search needs
 
 returns : tie.Need-returns
-returns c = step-told (c .before .before .before .before .before .before .before .before .before .before .before .before .before .before .before .before .before .before .before .before .before .before .before .before .before .before .before .before .before .args .head .now) (c .before .before .before .before .before .before .before .before .before .before .before .before .before .before .before .before .before .before .before .before .before .before .before .before .before .before .before .before .before .args .bytes .now) (c .before .before .before .before .before .before .before .before .before .before .before .before .before .before .before .before .before .before .before .before .before .before .before .before .before .before .before .before .before .args .shown .now) (c .before .before .before .before .before .before .before .before .before .before .before .before .before .before .before .before .before .before .before .before .before .before .before .before .before .before .before .before .before .args .bits .now) (c .before .before .before .before .before .before .before .before .before .before .before .before .before .before .before .before .before .before .before .before .before .before .before .before .before .before .before .before .before .args .work .now) (c .before .before .before .before .before .before .before .before .before .before .before .before .before .before .before .before .before .before .before .before .before .before .sign-all .ensures) (c .before .before .before .before .before .before .before .before .before .before .before .before .before .before .before .before .before .before .before .before .position-in .ensures) (c .before .before .before .before .before .before .before .before .before .before .before .before .step .ensures) (c .before .before .before .before .before .before .before .before .before .before .before .before .step .kept .1 .1 .1 .1 .1 .0) (c .before .before .before .before .before .before .before .before .before .before .before .before .step .kept .1 .1 .1 .1 .1 .1 .0) (c .before .before .put-outcome .ensures)
+returns c = let a = (c .before .before .before .before .before .before .before .before .before .before .before .before .before .before .before .before .before .before .before .before .before .before .before .before .before .before .before .before .before .before .args) in
+    step-told (a .head .now) (a .bytes .now) (a .shown .now) (a .bits .now) (a .work .now) (c .before .before .before .before .before .before .before .before .before .before .before .before .before .before .before .before .before .before .before .before .before .before .before .sign-all .ensures) (c .before .before .before .before .before .before .before .before .before .before .before .before .before .before .before .before .before .before .before .before .before .position-in .ensures) (c .before .before .before .before .before .before .before .before .before .before .before .before .call .ensures)
+    (c .before .before .before .before .before .before .before .before .before .before .before .before .call .kept .1 .1 .1 .1 .1 .1 .0) (c .before .before .before .before .before .before .before .before .before .before .before .before .call .kept .1 .1 .1 .1 .1 .1 .1 .0) (c .before .before .put-outcome .ensures)
 
 pub tell-step-spec : {M : Type 1} → statement M
 tell-step-spec =
@@ -50,10 +54,11 @@ tell-step-spec =
     (tie.spec
     sign-all-requires
     position-in-requires
-    element-copy-out-step
-    element-copy-out-step-2
-    element-copy-out-step-3
-    step-requires
+    element-copy-out-call
+    element-copy-out-call-2
+    element-copy-out-call-3
+    element-copy-out-call-4
+    call-requires
     put-outcome-requires
     same-length
     same-length-2
