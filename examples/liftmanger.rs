@@ -25,6 +25,7 @@ mod raw {
         pub lce: u32,
         pub dce: u32,
         pub flag: u32,
+        pub unopened: u32,
         pub rce: u32,
         pub solved_left: u32,
         pub solved_chord: u32,
@@ -50,7 +51,7 @@ mod raw {
     /// The row and the column beside a number that has no place.
     pub const NOWHERE: [u8; 2] = [255, 255];
 
-    const _: () = assert!(size_of::<Position>() == 52 && size_of::<Answer>() == 60 && size_of::<Value>() == 8);
+    const _: () = assert!(size_of::<Position>() == 56 && size_of::<Answer>() == 64 && size_of::<Value>() == 8);
 
     extern "C" {
         pub fn lm_number_mines(r: u8, c: u8, list: *const u8, list_n: usize, mines: *mut i8, mines_n: usize) -> u32;
@@ -235,6 +236,8 @@ pub struct View<'a> {
     pub lce: u32,
     pub dce: u32,
     pub flag: u32,
+    /// safe cells that do not show 0 to 8
+    pub unopened: u32,
     pub shown: &'a [u8],
 }
 
@@ -454,6 +457,7 @@ impl<const CELLS: usize, const BITS: usize, const WORK: usize> Game<CELLS, BITS,
             lce: p.lce,
             dce: p.dce,
             flag: p.flag,
+            unopened: p.unopened,
             shown: &self.shown,
         }
     }

@@ -29,6 +29,7 @@ static void good(void)
     p.rows = 3;
     p.columns = 3;
     p.rules = 1;
+    p.unopened = 8;
     cells = 9;
     bytes = 2;
 }
@@ -177,6 +178,7 @@ static void plain(void)
         p.game = LM_LOSS;
         steps("l, r and m in Loss", code, 0);
         p.game = LM_WIN;
+        p.unopened = 0;
         p.middle = 1;
         for (size_t i = 0; i < 8; i++)
             shown[i] = (uint8_t)mines[i];
@@ -231,6 +233,13 @@ int main(void)
         p.mouse = LM_UP_DOWN_NOT_FLAG;
         none(what[fault], LM_UNLAWFUL_SHOWN + fault);
     }
+    p.unopened = 7;
+    none("7 safe cells not open, of 8", LM_UNLAWFUL_COUNT);
+    p.unopened = 9;
+    none("9 safe cells not open, of 8", LM_UNLAWFUL_COUNT);
+    p.unopened = 7;
+    p.mouse = LM_UP_DOWN_NOT_FLAG;
+    none("7 safe cells not open, mouse 2", LM_UNLAWFUL_COUNT);
     bits[1] = 128;
     none("bit 15", LM_UNLAWFUL_BITS);
     shown[0] = LM_QUESTION;

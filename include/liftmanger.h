@@ -68,7 +68,8 @@ enum lm_number {
     LM_BAD_RULES = 45,       /* the rules are not 1 or 2; setup and reset answer this, after 25, and a book (place 5) */
     LM_UNLAWFUL_SHOWN = 261, /* the shown board has a value that this game cannot show there */
     LM_UNLAWFUL_BITS = 262,  /* a bit is set that belongs to no mine */
-    LM_UNLAWFUL_COUNT = 263, /* the flag count is not that of the shown board, or another count is above what events and open cells allow */
+    LM_UNLAWFUL_COUNT = 263, /* the flag count or the safe cells not open are not those of the board, or another count is above what events and open
+                                cells allow */
     LM_UNLAWFUL_STATE = 264, /* the position is not one that its game state or mouse state can have, a state byte of it means nothing, or its
                                 rules are not 1 or 2 */
     LM_BAD_POINTER = 30,     /* the pointer is neither a cell nor exactly (rows, columns) */
@@ -125,7 +126,7 @@ enum lm_shown { LM_CLOSED = 10, LM_FLAG = 11, LM_WRONG_FLAG = 14, LM_MINE_HIT = 
 
 /* ---- the position ---- */
 
-/* The position of a game, 52 bytes without padding. setup makes one; a caller keeps it and hands it to the next call. Any bytes are taken:
+/* The position of a game, 56 bytes without padding. setup makes one; a caller keeps it and hands it to the next call. Any bytes are taken:
  * question or middle above 1, game above 4 or mouse above 6 means nothing. It is 264, where none of 20 to 263 applies; for them it is read as
  * the last state, or as 1. */
 typedef struct lm_position {
@@ -141,6 +142,7 @@ typedef struct lm_position {
     uint32_t left, right, doubles; /* left clicks, right clicks, chords */
     uint32_t lce, dce;             /* left clicks that opened a safe cell, chords by hand that opened cells */
     uint32_t flag;                 /* cells that show a flag, right or wrong */
+    uint32_t unopened;             /* safe cells that do not show 0 to 8; the game is won at 0 */
     /* Secrets, that know hidden mines: to be shown after the game only. */
     uint32_t rce;          /* flags by hand on a mine that had none before */
     uint32_t solved_left;  /* 3BV solved by left clicks */
@@ -176,8 +178,8 @@ typedef struct lm_book {
 } lm_book;
 
 /* The layout that the library was proved for. */
-typedef char lm_position_has_52_bytes[sizeof(lm_position) == 52 ? 1 : -1];
-typedef char lm_answer_has_60_bytes[sizeof(lm_answer) == 60 ? 1 : -1];
+typedef char lm_position_has_56_bytes[sizeof(lm_position) == 56 ? 1 : -1];
+typedef char lm_answer_has_64_bytes[sizeof(lm_answer) == 64 ? 1 : -1];
 typedef char lm_value_has_8_bytes[sizeof(lm_value) == 8 ? 1 : -1];
 typedef char lm_book_has_48_bytes[sizeof(lm_book) == 48 ? 1 : -1];
 

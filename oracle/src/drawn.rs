@@ -2,7 +2,7 @@
 
 use crate::board::numbered;
 use crate::game::*;
-use crate::lawful::{showing, work_room};
+use crate::lawful::{showing, unopened, work_room};
 use crate::layout::Layout;
 use crate::player::{any_pointer, chordable, unknown_code, Record};
 use crate::position::{Lent, Position, GAME_STATES, MOUSE_STATES};
@@ -158,6 +158,7 @@ fn position(random: &mut Random, settings: Settings, game: GameBoardState, mouse
         flag: flags + showing(lent, |shown| shown == 14),
         solved_left,
         solved_chord: solved - solved_left,
+        unopened: unopened(lent),
     }
 }
 
@@ -247,7 +248,7 @@ pub fn starve(random: &mut Random, position: &Position, event: &mut Record, work
 
 /// Changes one thing; what comes out may be unlawful in one way or several, or lawful still.
 pub fn spoil(random: &mut Random, position: &mut Position, lent: &mut Lent) {
-    match random.below(27) {
+    match random.below(29) {
         0 => spoil_size(random, position, lent),
         1 => position.settings.mode = random.pick(&[6, 7, 8, 9, 10, 17, 18, 255]),
         2 => spoil_cells(random, lent, &[-128, -2, -1, 0, 8, 9, 10, 127]),
@@ -265,6 +266,7 @@ pub fn spoil(random: &mut Random, position: &mut Position, lent: &mut Lent) {
         20 => position.preflag = near(random, showing(lent, |shown| shown == 11)),
         21 | 22 => position.mouse = random.pick(&MOUSE_STATES),
         23 => position.settings.rules = random.pick(&[0, 3, 4, 255]),
+        24 | 25 => position.unopened = near(random, position.unopened),
         _ => position.game = random.pick(&GAME_STATES),
     }
 }
@@ -312,7 +314,7 @@ fn spoil_cells(random: &mut Random, lent: &mut Lent, values: &[i8]) {
     }
 }
 
-/// The flag count follows the new look every second time, so that one fault does not hide behind another.
+/// The flag count and the safe cells not open follow the new look every second time, so that one fault does not hide behind another.
 fn spoil_shown(random: &mut Random, position: &mut Position, lent: &mut Lent) {
     let Some(cell) = any_cell(random, lent) else { return };
     lent.shown[cell] = match random.below(5) {
@@ -324,6 +326,7 @@ fn spoil_shown(random: &mut Random, position: &mut Position, lent: &mut Lent) {
     };
     if random.chance(50) {
         position.flag = showing(lent, |shown| shown == 11 || shown == 14);
+        position.unopened = unopened(lent);
     }
 }
 
@@ -354,8 +357,9 @@ fn spoil_by_far(random: &mut Random, p: &mut Position) {
         &mut p.flag,
         &mut p.solved_left,
         &mut p.solved_chord,
+        &mut p.unopened,
     ];
-    *counts[random.below(11)] = u32::MAX as usize;
+    *counts[random.below(12)] = u32::MAX as usize;
 }
 
 fn spoil_solved(random: &mut Random, position: &mut Position, lent: &Lent) {

@@ -90,6 +90,7 @@ fn counts(position: &Position, lent: &Lent) -> bool {
         && p.double <= p.events + open_or_hit
         && p.solved_left + p.solved_chord <= open
         && p.flag == showing(lent, |shown| shown == 11 || shown == 14)
+        && p.unopened == unopened(lent)
 }
 
 fn states(position: &Position, lent: &Lent) -> bool {
@@ -99,15 +100,16 @@ fn states(position: &Position, lent: &Lent) -> bool {
     let by_game = match position.game {
         GameBoardState::Ready => flags == 0 && position.preflag == 0 && !not_flag && nothing_open,
         GameBoardState::PreFlaging => nothing_open && flags <= position.preflag,
-        GameBoardState::Playing => safe_unopened(lent),
-        GameBoardState::Win => !safe_unopened(lent),
+        GameBoardState::Playing => unopened(lent) > 0,
+        GameBoardState::Win => unopened(lent) == 0,
         _ => true,
     };
     by_game && (!not_flag || position.right >= 1) && rules_allowed(position.settings.rules)
 }
 
-fn safe_unopened(lent: &Lent) -> bool {
-    lent.mines.iter().zip(&lent.shown).any(|(&mine, &shown)| mine != -1 && shown > 8)
+/// How many safe cells are not open.
+pub fn unopened(lent: &Lent) -> usize {
+    lent.mines.iter().zip(&lent.shown).filter(|&(&mine, &shown)| mine != -1 && shown > 8).count()
 }
 
 pub fn showing(lent: &Lent, asked: impl Fn(u8) -> bool) -> usize {

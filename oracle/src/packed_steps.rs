@@ -3,21 +3,23 @@
 use crate::position::{Lent, Position};
 use crate::steps::{Call, Step};
 
-/// A position's first numbers have one byte each, the others four; the last, its rules, has one byte behind the event.
+/// A position's first numbers have one byte each, the others four; behind the event stand its last two, the rules in one byte and, after the call, the
+/// safe cells not open in four.
 const SHORT_NUMBERS: usize = 7;
 
-/// Between the call and the lengths, for numbers to come: written 0 and not read.
-const RESERVED: usize = 16;
+/// Before the lengths, for numbers to come: written 0 and not read.
+const RESERVED: usize = 12;
 
 pub fn pack(out: &mut Vec<u8>, step: &Step) {
     let Lent { mines, shown, bits } = &step.lent;
-    let [before @ .., rules] = step.position.numbers();
+    let [before @ .., rules, unopened] = step.position.numbers();
     for (place, number) in before.into_iter().enumerate() {
         put(out, number, if place < SHORT_NUMBERS { 1 } else { 4 });
     }
     out.extend(step.event);
     put(out, rules, 1);
     put(out, step.call.number(), 1);
+    put(out, unopened, 4);
     out.extend([0; RESERVED]);
     for length in [mines.len(), shown.len(), bits.len(), step.work] {
         put(out, length, 2);
@@ -46,15 +48,16 @@ pub fn unpack(stream: &[u8]) -> Result<Vec<Step>, String> {
 }
 
 fn first(rest: &mut &[u8]) -> Option<Step> {
-    let mut numbers = [0; 19];
-    let [before @ .., rules] = &mut numbers;
+    let mut numbers = [0; 20];
+    let [before @ .., rules, unopened] = &mut numbers;
     for (place, number) in before.iter_mut().enumerate() {
         *number = take(rest, if place < SHORT_NUMBERS { 1 } else { 4 })?;
     }
     let event = bytes(rest, 3)?.try_into().ok()?;
     *rules = take(rest, 1)?;
-    let position = Position::from_numbers(numbers)?;
     let call = Call::of_number(take(rest, 1)?);
+    *unopened = take(rest, 4)?;
+    let position = Position::from_numbers(numbers)?;
     bytes(rest, RESERVED)?;
     let [mines, shown, bits, work] = [take(rest, 2)?, take(rest, 2)?, take(rest, 2)?, take(rest, 2)?];
     let mines = bytes(rest, mines)?.iter().map(|&byte| byte as i8).collect();

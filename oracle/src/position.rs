@@ -2,6 +2,7 @@
 
 use crate::board::Rows;
 use crate::game::{Game, Settings};
+use crate::lawful::unopened;
 use original::{GameBoardState, Hidden, MouseState, Original};
 
 pub const GAME_STATES: [GameBoardState; 5] = [
@@ -39,6 +40,8 @@ pub struct Position {
     pub flag: usize,
     pub solved_left: usize,
     pub solved_chord: usize,
+    /// safe cells that do not show 0 to 8; the Rust keeps no such number, so it is counted from its board
+    pub unopened: usize,
 }
 
 /// The mine board, the shown board and the flagged-before bits, flat, in row order.
@@ -50,8 +53,8 @@ pub struct Lent {
 }
 
 impl Position {
-    /// The nineteen numbers of a position, in the order that a step has them.
-    pub fn numbers(&self) -> [usize; 19] {
+    /// The twenty numbers of a position, in the order that a step has them.
+    pub fn numbers(&self) -> [usize; 20] {
         [
             self.settings.rows,
             self.settings.columns,
@@ -72,13 +75,14 @@ impl Position {
             self.solved_left,
             self.solved_chord,
             self.settings.rules.into(),
+            self.unopened,
         ]
     }
 
     /// And back; None where a state, a yes or a no is none.
-    pub fn from_numbers(numbers: [usize; 19]) -> Option<Position> {
+    pub fn from_numbers(numbers: [usize; 20]) -> Option<Position> {
         let [rows, columns, mode, question, game, mouse, middle, preflag, events, counts @ ..] = numbers;
-        let [left, right, double, lce, rce, dce, flag, solved_left, solved_chord, rules] = counts;
+        let [left, right, double, lce, rce, dce, flag, solved_left, solved_chord, rules, unopened] = counts;
         let (mode, rules) = (mode.try_into().ok()?, rules.try_into().ok()?);
         Some(Position {
             settings: Settings { rows, columns, mode, question: yes_or_no(question)?, rules },
@@ -96,6 +100,7 @@ impl Position {
             flag,
             solved_left,
             solved_chord,
+            unopened,
         })
     }
 }
@@ -165,6 +170,7 @@ impl Game {
             flag: board.flag,
             solved_left: board.bbbv_solved_left,
             solved_chord: board.bbbv_solved_chord,
+            unopened: unopened(&self.lent()),
         }
     }
 

@@ -6,7 +6,8 @@
 //   event      code row column                                                3 numbers of one byte
 //   position   rules                                                          1 number of one byte
 //   call       0 the pair, 1 resolve alone, 2 the plain step alone            1 number of one byte; any other is taken as 0
-//   reserved   0, not read                                                    16 bytes
+//   position   unopened, the safe cells not open                              1 number of four bytes
+//   reserved   0, not read                                                    12 bytes
 //   lengths    of the mine board, the shown board, the bits and the work      4 numbers of two bytes
 //   mines      the mine board, 255 for a mine                                 its length in bytes
 //   shown      the shown board                                                its length in bytes
@@ -19,7 +20,7 @@
 //   place      row and column of the faulty cell, or 255 255                  2 numbers
 //   value      cells that show 0 to 8 after the step and did not before;
 //              of resolve alone the plain code, 0 beside a refusal            1 number
-//   position   after the step, as above, the rules last                       19 numbers
+//   position   after the step, as above, the rules and unopened last          20 numbers
 //   shown      after the step                                                 as many as were lent
 //   bits       after the step                                                 as many as were lent
 //
@@ -213,10 +214,10 @@ impl Step {
 
     fn numbers(&self) -> Vec<usize> {
         let Lent { mines, shown, bits } = &self.lent;
-        let [before @ .., rules] = self.position.numbers();
+        let [before @ .., rules, unopened] = self.position.numbers();
         let mut numbers = before.to_vec();
         extend(&mut numbers, &self.event);
-        numbers.extend([rules, self.call.number(), mines.len(), shown.len(), bits.len(), self.work]);
+        numbers.extend([rules, self.call.number(), unopened, mines.len(), shown.len(), bits.len(), self.work]);
         numbers.extend(mines.iter().map(|&cell| usize::from(cell as u8)));
         extend(&mut numbers, shown);
         extend(&mut numbers, bits);

@@ -8,9 +8,10 @@ use lib.Dec.{eqb, leb}
 use lib.IntN.{ℤ}
 use Rattle.rules.specs.declared.Position.{Position}
 use Rattle.rules.specs.declared.Answer.{Answer}
+use Rattle.rules.specs.Opening.{openedIn}
 use Rattle.rules.specs.Clicks.{Desk, desk}
 use Rattle.rules.specs.Step.{plainCode, plainOn}
-use Rattle.rules.specs.Calls.{Outcome, lentRefusal, refused, refusedAt, accepted, openedIn, played, stepOf}
+use Rattle.rules.specs.Calls.{Outcome, lentRefusal, refused, refusedAt, accepted, played, stepOf}
 use Rattle.rules.specs.Promises.{StepIs}
 use Rattle.cells.specs.Contracts.{openIn}
 use Rattle.cells.proofs.Words.{pick-both}

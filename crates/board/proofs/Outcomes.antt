@@ -21,10 +21,11 @@ use Rattle.rules.specs.Words.{pick, unless}
 use Rattle.rules.specs.States.{freshOf, withGame}
 use Rattle.rules.specs.Board.{faultOf, numberingRefusal}
 use Rattle.rules.specs.Lent.{workAfter}
+use Rattle.rules.specs.Opening.{openedIn}
 use Rattle.rules.specs.Judging.{leftToSolve}
 use Rattle.rules.specs.Clicks.{Desk, Play, desk, done}
 use Rattle.rules.specs.Step.{eventRefusal, plainOf, refusalAt, playAt, stepAt, stepBy, stepOn, pointerOf, plainCode, plainOn}
-use Rattle.rules.specs.Calls.{Outcome, outcome, SetUp, Totalled, Asked, Numbered, cellsIn, answers, refuses, checks, setUp, refused, refusedAt, accepted, openedIn, played, setupBy, setupRefusal, setupOf, resetOf, totalRefusal, totalOf, numberingOf, positionCheck, lentRefusal, flowRefusal, resolveOf, stepOf, flowOf, gameStateOf, bbbvSolvedOf, leftToSolveOf}
+use Rattle.rules.specs.Calls.{Outcome, outcome, SetUp, Totalled, Asked, Numbered, cellsIn, answers, refuses, checks, setUp, refused, refusedAt, accepted, played, setupBy, setupRefusal, setupOf, resetOf, totalRefusal, totalOf, numberingOf, positionCheck, lentRefusal, flowRefusal, resolveOf, stepOf, flowOf, gameStateOf, bbbvSolvedOf, leftToSolveOf}
 use Rattle.cells.proofs.Words.{one}
 use Rattle.boards.proofs.Faults.{place-none}
 use Rattle.game.proofs.Answers.{play-answers, refusal-refuses, refused-from}
@@ -95,7 +96,7 @@ unfolding totalOf
 total-3bv-refused rows columns B work h = simp (ne-eqb _ _ h)
 
 pub setup-refused : (s : Settings) (B : List ℤ) (shown bits : List ℕ) → (setupRefusal s B shown bits ≡ 0 → ⊥)
-    → setupOf s B shown bits ≡ setUp (refuses B (freshOf s) (setupRefusal s B shown bits)) shown bits
+    → setupOf s B shown bits ≡ setUp (refuses B (freshOf s 0) (setupRefusal s B shown bits)) shown bits
 unfolding setupOf setupBy
 setup-refused s B shown bits h = simp (ne-eqb _ _ h)
 

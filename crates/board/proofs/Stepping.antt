@@ -1,5 +1,5 @@
 -- A step as a public call: how each way through the code is the definition's outcome; and work cleared for the core.
-use mathlib.Core.Path.{_≡_, _∙_, sym, ap}
+use mathlib.Core.Path.{_≡_, _∙_, sym, ap, subst⁻¹}
 use mathlib.Core.List.{List, _++_}
 use Prim.Native.Nat.{ℕ, _+_, _*_, _<_, _≤_}
 use native.Mathlib.Omega.{arith}
@@ -13,13 +13,14 @@ use Rattle.rules.specs.declared.Answer.{Answer}
 use Rattle.rules.specs.declared.Event.{Event}
 use Rattle.rules.specs.Words.{unless}
 use Rattle.rules.specs.Lent.{workRoom, workAfter}
+use Rattle.rules.specs.Opening.{openedIn}
 use Rattle.rules.specs.Clicks.{Desk, Play, desk, done}
 use Rattle.rules.specs.Step.{eventRefusal, plainCode, plainOn}
-use Rattle.rules.specs.Calls.{answers, refuses, outcome, cellsIn, openedIn, lentRefusal, stepOf}
-use Rattle.cells.specs.Contracts.{Ticked}
+use Rattle.rules.specs.Calls.{answers, refuses, outcome, cellsIn, lentRefusal, stepOf}
 use Rattle.keep.specs.Kept.{LawfulAt}
 use Rattle.keep.proofs.Lawful.{lent-lawful}
 use Rattle.keep.proofs.Step.{step-follows}
+use Rattle.keep.proofs.Opens.{Fell, step-fell}
 use Rattle.board.specs.Parts.{Blanked}
 use Rattle.cells.proofs.Filling.{cleared-zeros}
 use Rattle.refusals.proofs.Refusals.{lent-mined}
@@ -40,16 +41,20 @@ module _ (B : List ℤ) (code r c : ℕ) (p : Position) (shown bits work : List 
 
   -- played
   pub step-done : (m v : ℕ) (q : Position) (a : Answer) (shown′ bits′ work′ : List ℕ) → n ≡ 0 → done m (desk q shown′ bits′) ≡ plainOn B code r c (desk p shown bits) → m < 20
-      → work′ ≡ workAfter (cellsIn (p .settings)) work → q .settings ≡ p .settings → Ticked 0 shown v shown′ → a ≡ answers m q v
+      → work′ ≡ workAfter (cellsIn (p .settings)) work → q .settings ≡ p .settings → v ≡ openedIn shown shown′ → a ≡ answers m q v
       → outcome a shown′ bits′ work′ ≡ stepOf B code r c (desk p shown bits) work
   unfolding stepOf
-  step-done m v q a shown′ bits′ work′ z s l w g t h =
-      let k : v ≡ openedIn shown shown′ = omega (arith, t .counted) in
-      rw (← e, eq-eqb n 0 z, ← s, lt-leb 20 m l, h, w, g, k)
+  step-done m v q a shown′ bits′ work′ z s l w g k h = rw (← e, eq-eqb n 0 z, ← s, lt-leb 20 m l, h, w, g, k)
 
 pub settings-kept : (B : List ℤ) (code r c : ℕ) (p q : Position) (shown bits shown′ bits′ : List ℕ) (m : ℕ) → LawfulAt B (desk p shown bits)
     → done m (desk q shown′ bits′) ≡ plainOn B code r c (desk p shown bits) → q .settings ≡ p .settings
 settings-kept B code r c p q shown bits shown′ bits′ m l h = ap (λ (o : Play). o .desk .position .settings) h ∙ step-follows B (plainCode code) r c (desk p shown bits) l .settings
+
+-- what it opened is what the number of safe cells still closed fell by
+pub step-opened : (B : List ℤ) (code r c : ℕ) (p q : Position) (shown bits shown′ bits′ : List ℕ) (m : ℕ) → LawfulAt B (desk p shown bits)
+    → done m (desk q shown′ bits′) ≡ plainOn B code r c (desk p shown bits) → Fell (desk p shown bits) (desk q shown′ bits′)
+step-opened B code r c p q shown bits shown′ bits′ m l h =
+    subst⁻¹ (λ (o : Play). Fell (desk p shown bits) (o .desk)) h (step-fell B (plainCode code) r c (desk p shown bits) l)
 
 pub played-small : (B : List ℤ) (e : Event) (d f : Desk) (m : ℕ) → done m f ≡ playEvent B e d → m < 20
 played-small B e d f m h = let a = event-answers B e d .small in let b : m ≡ playEvent B e d .answer = ap (λ (o : Play). o .answer) h in omega arith

@@ -35,7 +35,8 @@ fn blank(s: Settings, work: &mut [u16])
     cells::clear(&mut *work, 8 * cells + 8);
 }
 
-// A step tests all, 20 to 33, and plays plain events only: l, r and m are resolved before, or they are unknown.
+// A step tests all, 20 to 33, and plays plain events only: l, r and m are resolved before, or they are unknown. What it opened is what the number
+// of safe cells still closed fell by.
 pub fn step(
     p: Position,
     code: u8,
@@ -64,7 +65,8 @@ pub fn step(
     blank(s, &mut *work);
     let o = game::play_event(p, e, mines, &mut *shown, &mut *bits, &mut *work);
     let z = o.position;
-    calls::answer(o.answer, z, o.opened)
+    let opened = p.counts.unopened - z.counts.unopened;
+    calls::answer(o.answer, z, opened)
 }
 
 // What the first event is refused with, or 0: a row that is refused there has touched nothing.

@@ -3,13 +3,15 @@ use mathlib.Core.Path.{_≡_}
 use mathlib.Core.List.{List}
 use Prim.Native.Nat.{ℕ}
 use lib.ListN.{replicate}
+use lib.IntN.{ℤ}
 use Rattle.rules.specs.declared.Settings.{Settings}
 use Rattle.rules.specs.declared.Position.{Position}
 use Rattle.rules.specs.States.{freshOf}
+use Rattle.rules.specs.Board.{safeIn}
 use Rattle.rules.specs.Lent.{bitBytes}
 use Rattle.rules.specs.Clicks.{desk}
 use Rattle.rules.specs.Calls.{cellsIn, freshDesk}
 
-pub filled-fresh : {s : Settings} {m n : ℕ} {p : Position} {shown bits : List ℕ} → m ≡ cellsIn s → n ≡ bitBytes (cellsIn s)
-    → p ≡ freshOf s → shown ≡ replicate m 10 → bits ≡ replicate n 0 → desk p shown bits ≡ freshDesk s
-filled-fresh em en ep es eb = rw (ep, es, eb, em, en)
+pub filled-fresh : (B : List ℤ) {s : Settings} {m n k : ℕ} {p : Position} {shown bits : List ℕ} → m ≡ cellsIn s → n ≡ bitBytes (cellsIn s)
+    → p ≡ freshOf s k → k ≡ safeIn B → shown ≡ replicate m 10 → bits ≡ replicate n 0 → desk p shown bits ≡ freshDesk s B
+filled-fresh B em en ep ek es eb = rw (ep, ek, es, eb, em, en)

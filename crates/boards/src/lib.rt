@@ -6,7 +6,7 @@ ghost use Prim.Native.Nat.{_*_, _<_, _≤_};
 ghost use lib.ListN.{length};
 ghost use Rattle.rules.specs.Words.{firstNot};
 ghost use Rattle.rules.specs.Grid.{cellOf};
-ghost use Rattle.rules.specs.Board.{valueOk, valueOkAt, valuesOk, numberOk, numbersOk, someSafe, boardRefusal, boardCheck, placeOf, faultOf};
+ghost use Rattle.rules.specs.Board.{valueOk, valueOkAt, valuesOk, numberOk, numbersOk, someSafe, safeIn, boardRefusal, boardCheck, placeOf, faultOf};
 ghost use Rattle.rules.specs.Lent.{bitBytes};
 ghost use Rattle.rules.specs.Clicks.{desk};
 ghost use Rattle.rules.specs.Calls.{cellsIn, freshDesk};
@@ -183,13 +183,32 @@ pub fn fault_of(rows: u8, columns: u8, mines: &[i8], n: u16) -> Place
     Place::Nowhere
 }
 
+// How many cells are safe.
+fn safe_cells(mines: &[i8]) -> u32
+    requires { ⌜ Valued (now mines) ⌝ }
+    requires { ⌜ length (now mines) ≤ 2048 ⌝ }
+    ensures { λ r. ⌜ r ≡ safeIn (now (mines .entry)) ⌝ }
+{
+    let mut n = 0;
+    let mut i = 0;
+    while i < mines.len() {
+        let f = cells::face_at(mines, i);
+        let one = cells::one_if(f != 15);
+        n += one;
+        i += 1;
+    }
+    n
+}
+
 // The fresh desk: every cell closed, every bit 0, and the position of a game that nobody has touched.
-pub fn fresh_desk(s: Settings, shown: &mut [u8], bits: &mut [u8]) -> Position
+pub fn fresh_desk(s: Settings, mines: &[i8], shown: &mut [u8], bits: &mut [u8]) -> Position
+    requires { ⌜ Mined (now mines) (s .rows) (s .columns) ⌝ }
     requires { ⌜ length (now shown) ≡ cellsIn s ⌝ }
     requires { ⌜ length (now bits) ≡ bitBytes (cellsIn s) ⌝ }
-    ensures { λ r. ⌜ desk r (now (shown .exit)) (now (bits .exit)) ≡ freshDesk s ⌝ }
+    ensures { λ r. ⌜ desk r (now (shown .exit)) (now (bits .exit)) ≡ freshDesk s (now (mines .entry)) ⌝ }
 {
     cells::fill(&mut *shown, 10);
     cells::fill(&mut *bits, 0);
-    rules::fresh(s)
+    let safe = safe_cells(mines);
+    rules::fresh(s, safe)
 }

@@ -94,7 +94,7 @@ module _ (B : List ℤ) (code : ℕ) (x : Pointer) (p : Position) (shown bits : 
         (h ∙ ap (λ (g : GameState). byGame g B (eventOf code x) d) (sym game-is))
 
     pub button-briefly : (r : Brief) (shown′ bits′ : List ℕ) → Plainly (playing B (eventOf code x)) p shown bits r shown′ bits′ → Briefly B code x p shown bits r shown′ bits′
-    button-briefly (Done o) shown′ bits′ h = (button-steps (done (o .answer) (desk (o .position) shown′ bits′)) (h .0), h .1)
+    button-briefly (Done o) shown′ bits′ h = button-steps (done (o .answer) (desk (o .position) shown′ bits′)) h
     button-briefly Other shown′ bits′ h = h
 
   pub move-steps : code ≡ 4 → counts d (done 0 d) ≡ stepAt B code x d

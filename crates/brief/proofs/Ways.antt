@@ -1,5 +1,5 @@
 -- One equation for each brief event, what it asks of the rule's own function, and what an event that is not brief leaves.
-use mathlib.Core.Path.{_≡_, _∙_, refl, sym, ap, subst⁻¹}
+use mathlib.Core.Path.{_≡_, _∙_, refl, sym, ap}
 use mathlib.Core.Bool.{Bool, true, false, _||_, true≢false}
 use mathlib.Core.List.{List}
 use Prim.Native.Nat.{ℕ, _*_, _/_, _<_}
@@ -21,9 +21,8 @@ use Rattle.rules.specs.Passes.{passesAfterFlag, rightClick}
 use Rattle.rules.specs.Mouse.{moved, bothDown}
 use Rattle.rules.specs.Step.{move, seenAt, leftAt, rightAt, chordFrom, playLc, playLr, playRc, playRr, eventOf, playing}
 use Rattle.cells.specs.Ground.{Mined, Valued}
-use Rattle.cells.specs.Contracts.{Ticked, RoomAt}
+use Rattle.cells.specs.Contracts.{RoomAt}
 use Rattle.cells.proofs.Grid.{cell-lt}
-use Rattle.opening.proofs.Ticking.{ticked-flag}
 use Rattle.clicks.specs.Parts.{NumberAt}
 use Rattle.keep.specs.Kept.{LawfulAt, Inside}
 use Rattle.keep.proofs.Able.{lawful-room}
@@ -37,10 +36,9 @@ on-board s row column o = cell-lt (s .rows) (s .columns) row column (o .0) (o .1
 -- ---- rr --------------------------------------------------------------------------------------------------------------------------------
 
 pub rr-turns : (B : List ℤ) (row column : ℕ) (p : Position) (o : Played) (shown bits : List ℕ) (m : ℕ) → m ≡ mouseNumber (p .mouse) → bothDown m ≡ false
-    → o ≡ record { answer = 0; opened = 0; position = moved 3 p }
-    → (done (o .answer) (desk (o .position) shown bits) ≡ playRr B (Cell row column) (desk p shown bits)) × Ticked 0 shown (o .opened) shown
+    → o ≡ record { answer = 0; position = moved 3 p } → done (o .answer) (desk (o .position) shown bits) ≡ playRr B (Cell row column) (desk p shown bits)
 unfolding playRr chordFrom bothDown
-rr-turns B row column p o shown bits m e b h = (rw (← e, h) (go (eqb m 4) (eqb m 5) _ _ b), rw h (record { counted = refl }))
+rr-turns B row column p o shown bits m e b h = rw (← e, h) (go (eqb m 4) (eqb m 5) _ _ b)
   where
     go : (s t : Bool) (x y : Play) → (s || t) ≡ false → done 0 (desk (moved 3 p) shown bits) ≡ pick s x (pick t y (done 0 (desk (moved 3 p) shown bits)))
     go true t x y w = absurd (true≢false w)
@@ -102,11 +100,6 @@ pub flag-leaves : (B : List ℤ) (i : ℕ) (p r down : Position) (shown bits sho
     → desk r shown′ bits′ ≡ flagged B i (addRight (desk down shown bits)) → done 1 (desk r shown′ bits′) ≡ done 1 (flagged B i (addRight (move 2 (desk p shown bits))))
 flag-leaves B i p r down shown bits shown′ bits′ d f = ap (done 1) (f ∙ ap (λ (x : Position). flagged B i (addRight (desk x shown bits))) d)
 
--- and opens nothing
-pub flag-ticked : (B : List ℤ) (i : ℕ) (r down : Position) (shown bits shown′ bits′ : List ℕ) → desk r shown′ bits′ ≡ flagged B i (addRight (desk down shown bits)) → getD shown i 0 ≡ 10
-    → Ticked 0 shown 0 shown′
-flag-ticked B i r down shown bits shown′ bits′ f ten = subst⁻¹ (λ (x : Desk). Ticked 0 shown 0 (x .shown)) f (ticked-flag 0 shown i (eq-eqb _ _ ten))
-
 -- ---- lr --------------------------------------------------------------------------------------------------------------------------------
 
 module _ (B : List ℤ) (row column i : ℕ) (p : Position) (at : i ≡ cellOf (p .settings .columns) row column) where
@@ -139,7 +132,7 @@ module _ (B : List ℤ) (row column i : ℕ) (p : Position) (at : i ≡ cellOf (
 
 pub plainly-by : (f g : Desk → Play) (p : Position) (shown bits : List ℕ) (r : Brief) (shown′ bits′ : List ℕ) → f (desk p shown bits) ≡ g (desk p shown bits)
     → Plainly f p shown bits r shown′ bits′ → Plainly g p shown bits r shown′ bits′
-plainly-by f g p shown bits (Done o) shown′ bits′ e h = (h .0 ∙ e, h .1)
+plainly-by f g p shown bits (Done o) shown′ bits′ e h = h ∙ e
 plainly-by f g p shown bits Other shown′ bits′ e h = h
 
 module _ (B : List ℤ) (code row column : ℕ) (p : Position) (shown bits : List ℕ) where
@@ -159,10 +152,9 @@ module _ (B : List ℤ) (code row column : ℕ) (p : Position) (shown bits : Lis
   unfolding playing eventOf
   code-rr e = rw e refl
 
-  pub lc-turns : (o : Played) → o ≡ record { answer = 0; opened = 0; position = moved 0 p }
-      → (done (o .answer) (desk (o .position) shown bits) ≡ playLc (Cell row column) (desk p shown bits)) × Ticked 0 shown (o .opened) shown
+  pub lc-turns : (o : Played) → o ≡ record { answer = 0; position = moved 0 p } → done (o .answer) (desk (o .position) shown bits) ≡ playLc (Cell row column) (desk p shown bits)
   unfolding playLc
-  lc-turns o e = rw e (refl, record { counted = refl })
+  lc-turns o e = rw e refl
 
 -- a button's code that is none of the first three
 pub last-code : (code : ℕ) → code < 4 → (code ≡ 0 → ⊥) → (code ≡ 1 → ⊥) → (code ≡ 2 → ⊥) → code ≡ 3

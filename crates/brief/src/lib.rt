@@ -82,7 +82,6 @@ fn press_right(
     let position = marking::flag(down, mines, shown, bits, cell);
     Brief::Done(Played {
         answer: 1,
-        opened: 0,
         position,
     })
 }
@@ -114,7 +113,7 @@ fn release_left(p: Position, row: u8, column: u8, mines: &[i8], shown: &mut [u8]
     let c = cells::wide(column);
     let lone = lones::lone_number(mines, rows, columns, r, c);
     let up = mouse::moved(1, p);
-    let o = clicks::left_number(up, mines, shown, cell, face, lone);
+    let o = clicks::left_number(up, shown, cell, face, lone);
     Brief::Done(o)
 }
 
@@ -168,7 +167,6 @@ fn on_cell(
     if code == 4 {
         return Brief::Done(Played {
             answer: 0,
-            opened: 0,
             position: p,
         });
     }

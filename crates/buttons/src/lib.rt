@@ -31,7 +31,6 @@ pub fn left_at(p: Position, x: Pointer, mines: &[i8], shown: &mut [u8], work: &m
             let q = clicks::add_left(p);
             Played {
                 answer: 0,
-                opened: 0,
                 position: q,
             }
         }
@@ -57,7 +56,6 @@ pub fn chord_at(
         }
         Pointer::Off => Played {
             answer: 0,
-            opened: 0,
             position: p,
         },
     }
@@ -84,7 +82,6 @@ pub fn right_at(
             let q = marking::add_right(p);
             Played {
                 answer: 0,
-                opened: 0,
                 position: q,
             }
         }
@@ -118,27 +115,24 @@ fn chord_from(
     }
     Played {
         answer: 0,
-        opened: 0,
         position: p,
     }
 }
 
 pub fn play_lc(p: Position, x: Pointer) -> Played
     requires { ⌜ p .counts .left ≤ 70000 ⌝ }
-    ensures { λ r. ⌜ ((shown bits : List ℕ) → done (r .answer) (desk (r .position) shown bits) ≡ playLc x (desk p shown bits)) × (r .opened ≡ 0) ⌝ }
+    ensures { λ r. ⌜ ((shown bits : List ℕ) → done (r .answer) (desk (r .position) shown bits) ≡ playLc x (desk p shown bits)) ⌝ }
 {
     if mouse::on_cell(x) {
         let q = mouse::moved(0, p);
         return Played {
             answer: 0,
-            opened: 0,
             position: q,
         };
     }
     let q = clicks::add_left(p);
     Played {
         answer: 0,
-        opened: 0,
         position: q,
     }
 }
@@ -186,7 +180,6 @@ pub fn play_rr(
             let q = mouse::moved(3, p);
             return Played {
                 answer: 0,
-                opened: 0,
                 position: q,
             };
         }
@@ -198,22 +191,20 @@ pub fn play_rr(
 // ---- an event that changes the position alone ------------------------------------------------------------------------------------------
 
 pub fn answered(p: Position) -> Played
-    ensures { λ r. ⌜ r ≡ record { answer = 0; opened = 0; position = p } ⌝ }
+    ensures { λ r. ⌜ r ≡ record { answer = 0; position = p } ⌝ }
 {
     Played {
         answer: 0,
-        opened: 0,
         position: p,
     }
 }
 
 pub fn middled(p: Position, b: bool) -> Played
-    ensures { λ r. ⌜ r ≡ record { answer = 0; opened = 0; position = withMiddle p b } ⌝ }
+    ensures { λ r. ⌜ r ≡ record { answer = 0; position = withMiddle p b } ⌝ }
 {
     let q = p.with_middle(b);
     Played {
         answer: 0,
-        opened: 0,
         position: q,
     }
 }

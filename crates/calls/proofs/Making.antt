@@ -69,18 +69,18 @@ module _ (n : ℕ) (B : List ℤ) (otherwise : Position) (s : Settings) (shown b
   unfolding setupBy
   set-refused r e h = ap (λ (a : Answer). setUp a shown bits) e ∙ simp (ne-eqb n 0 h)
 
-  pub set-fresh : (r : Answer) (p : Position) (shown′ bits′ : List ℕ) → r ≡ answers 0 p 0 → n ≡ 0 → desk p shown′ bits′ ≡ freshDesk s
+  pub set-fresh : (r : Answer) (p : Position) (shown′ bits′ : List ℕ) → r ≡ answers 0 p 0 → n ≡ 0 → desk p shown′ bits′ ≡ freshDesk s B
       → setUp r shown′ bits′ ≡ setupBy n B otherwise s shown bits
   unfolding setupBy
   set-fresh r p shown′ bits′ e z f =
       ap (λ (a : Answer). setUp a shown′ bits′) e ∙ ap (λ (d : Desk). setUp (answers 0 (d .position) 0) (d .shown) (d .bits)) f ∙ simp (eq-eqb n 0 z)
 
 -- the fresh position has the settings that were tested
-pub fresh-placeable : (B : List ℤ) (n : ℕ) {p : Position} {s : Settings} → p ≡ freshOf s → Placeable (s .rows) (s .columns) B n → Placeable (p .settings .rows) (p .settings .columns) B n
+pub fresh-placeable : (B : List ℤ) (n : ℕ) {k : ℕ} {p : Position} {s : Settings} → p ≡ freshOf s k → Placeable (s .rows) (s .columns) B n → Placeable (p .settings .rows) (p .settings .columns) B n
 fresh-placeable B n e h = rw e h
 
 module _ (x : SetUp) (n : ℕ) where
-  pub setup-by : (p : Position) (s : Settings) (B : List ℤ) (shown bits : List ℕ) → x ≡ setupBy n B p s shown bits → n ≡ setupRefusal s B shown bits → p ≡ freshOf s
+  pub setup-by : (p : Position) (s : Settings) (B : List ℤ) (shown bits : List ℕ) → x ≡ setupBy n B p s shown bits → n ≡ setupRefusal s B shown bits → p ≡ freshOf s 0
       → x ≡ setupOf s B shown bits
   unfolding setupOf
   setup-by p s B shown bits h e f = h ∙ ap₂ (λ (m : ℕ) (q : Position). setupBy m B q s shown bits) e f

@@ -88,13 +88,13 @@ fn set_up(
     bits: &mut [u8],
 ) -> Answer
     requires { ⌜ Placeable (otherwise .settings .rows) (otherwise .settings .columns) (now mines) n ⌝ }
-    requires { ⌜ (n ≡ 0 → (length (now shown) ≡ cellsIn s) × (length (now bits) ≡ bitBytes (cellsIn s))) ⌝ }
+    requires { ⌜ (n ≡ 0 → Mined (now mines) (s .rows) (s .columns) × ((length (now shown) ≡ cellsIn s) × (length (now bits) ≡ bitBytes (cellsIn s)))) ⌝ }
     ensures { λ r. ⌜ setUp r (now (shown .exit)) (now (bits .exit)) ≡ setupBy n (now (mines .entry)) otherwise s (now (shown .entry)) (now (bits .entry)) ⌝ }
 {
     if n != 0 {
         return refusals::refuse(n, otherwise, mines);
     }
-    let p = boards::fresh_desk(s, &mut *shown, &mut *bits);
+    let p = boards::fresh_desk(s, mines, &mut *shown, &mut *bits);
     answer(0, p, 0)
 }
 
@@ -103,7 +103,7 @@ pub fn setup(settings: Settings, mines: &[i8], shown: &mut [u8], bits: &mut [u8]
     ensures { λ r. ⌜ SetupIs settings (now (mines .entry)) (now (shown .entry)) (now (bits .entry)) r (now (shown .exit)) (now (bits .exit)) ⌝ }
 {
     let n = refusals::setup_refusal(settings, mines, &*shown, &*bits);
-    let p = rules::fresh(settings);
+    let p = rules::fresh(settings, 0);
     set_up(n, p, settings, mines, &mut *shown, &mut *bits)
 }
 

@@ -1,5 +1,5 @@
 -- What a playing function may rely on, and what it leaves: one chain of records from the opening up to a row of events.
--- A count that grows is answered in `Room`, a number beside the answer in `Plays`.
+-- A count that grows is answered in `Room`, a number beside the answer in `play`.
 use mathlib.Core.Path.{_≡_}
 use mathlib.Core.List.{List}
 use Prim.Native.Nat.{ℕ, _+_, _*_, _≤_}
@@ -11,8 +11,9 @@ use Rattle.rules.specs.declared.Secrets.{Secrets}
 use Rattle.rules.specs.declared.Position.{Position}
 use Rattle.rules.specs.declared.Played.{Played}
 use Rattle.rules.specs.Lent.{bitBytes, workRoom}
+use Rattle.rules.specs.Opening.{countShown, isOpen}
 use Rattle.rules.specs.Clicks.{Desk, Play, desk, done}
-use Rattle.rules.specs.Lawful.{countShown, shows, isOpen}
+use Rattle.rules.specs.Lawful.{shows}
 use Rattle.cells.specs.Ground.{Fitting, Zeros}
 
 -- ---- what it may rely on ---------------------------------------------------------------------------------------------------------------
@@ -91,11 +92,9 @@ pub record Leaves {A : Type 0} (got due : A) (work work′ : List ℕ) : Type 0 
 abbrev pub play : Played → List ℕ → List ℕ → Play
 play r shown bits = done (r .answer) (desk (r .position) shown bits)
 
--- an action at a desk: what it leaves, the work as it was lent, and the cells that it opened counted
-pub record Plays (f : Desk → Play) (p : Position) (shown bits work : List ℕ) (r : Played) (shown′ bits′ work′ : List ℕ) : Type 0 where
-  pub outcome : play r shown′ bits′ ≡ f (desk p shown bits)
-  pub same : work′ ≡ work
-  pub opened : Ticked 0 shown (r .opened) shown′
+-- an action at a desk
+abbrev pub Plays : (Desk → Play) → Position → List ℕ → List ℕ → List ℕ → Played → List ℕ → List ℕ → List ℕ → Type 0
+Plays f p shown bits work r shown′ bits′ work′ = Leaves (play r shown′ bits′) (f (desk p shown bits)) work work′
 
 -- an action that leaves the bits alone, whatever they are
 abbrev pub Acts : (Desk → Play) → Position → List ℕ → List ℕ → Played → List ℕ → List ℕ → Type 0

@@ -1,5 +1,5 @@
 -- The chord pass: a cell, a scan, and the scans, which end because one that goes on leaves fewer cells closed.
-use mathlib.Core.Path.{_≡_, refl, ap, ap₂, sym, _∙_, subst, subst⁻¹}
+use mathlib.Core.Path.{_≡_, refl, ap, ap₂, sym, _∙_, subst⁻¹}
 use mathlib.Core.Bool.{Bool, true, false, _&&_}
 use mathlib.Core.List.{List, []}
 use Prim.Native.Nat.{ℕ, zero, suc, _+_, _-_, _*_, _<_, _≤_}
@@ -18,8 +18,7 @@ use Rattle.rules.specs.Passes.{Scan, noted, chordOne, chordScan, chordRound, ch
 use Rattle.cells.specs.Ground.{Valued}
 use Rattle.cells.proofs.Words.{and-left, bit-le, rounds-keep, Looping, left, looping-start, looping-turn, looping-less, looping-done}
 use Rattle.opening.proofs.Cost.{closed-most}
-use Rattle.opening.proofs.Ticking.{ticked-none, ticked-then, ticked-add, ticked-room, open-most}
-use Rattle.cells.specs.Contracts.{Ticked, Laid, LaidAt, PassRoomAt, closedIn, openIn, Acts}
+use Rattle.cells.specs.Contracts.{Laid, LaidAt, PassRoomAt, closedIn, Acts}
 use Rattle.chords.specs.Fell.{Fell, idle, fell}
 use Rattle.chords.proofs.Steps.{chord-idle}
 use Rattle.chords.proofs.Chord.{chord-fell}
@@ -100,30 +99,23 @@ module _ (B : List ℤ) (v : Valued B) (i : ℕ) (s : Scanned) (shown shown′ w
   board-kept bits z (idle e) = (ap (λ (x : Play). x .desk .shown) (a bits .outcome ∙ e), one-idle B i (scan s shown bits) e)
   board-kept bits z (fell n c l t b r) = absurd (n (sym (ap (λ (x : Play). x .answer) (a bits .outcome)) ∙ z))
 
-  -- the sum is at most the cells
-  pub some-room : s .opened ≤ openIn shown → s .opened + o .opened ≤ length shown′
-  some-room h = let m = open-most shown′ in omega (arith, a [] .opened .counted)
-
-  pub one-none : o .answer ≡ 0 → Scans (λ bits. chordOne B i (scan s shown bits)) w s shown′ w′ × Ticked (s .opened) shown (s .opened) shown′
+  pub one-none : o .answer ≡ 0 → Scans (λ bits. chordOne B i (scan s shown bits)) w s shown′ w′
   one-none z =
-      let k : (bits : List ℕ) → (shown′ ≡ shown) × (chordOne B i (scan s shown bits) ≡ scan s shown bits) = λ bits. board-kept bits z (chord-fell B v i (desk (s .position) shown bits) long) in (
-        (λ bits. record { outcome = ap (λ (l : List ℕ). scan s l bits) (k bits .0) ∙ sym (k bits .1); same = a bits .same }),
-        rw (k [] .0) (ticked-none (s .opened) shown),
-      )
+      λ bits.
+      let k = board-kept bits z (chord-fell B v i (desk (s .position) shown bits) long) in
+      record { outcome = ap (λ (l : List ℕ). scan s l bits) (k .0) ∙ sym (k .1); same = a bits .same }
 
-  pub one-some : isPlaying (s .position .game) ≡ true → (o .answer ≡ 0 → ⊥) → (r : Scanned) → r ≡ yes (o .position) (s .opened + o .opened)
-      → Scans (λ bits. chordOne B i (scan s shown bits)) w r shown′ w′ × Ticked (s .opened) shown (r .opened) shown′
-  one-some e n r d = (
-    (λ bits.
-        record {
-          outcome =
-              ap (λ (x : Scanned). scan x shown′ bits) d
-              ∙ ap opened (a bits .outcome)
-              ∙ sym (one-plays B i (scan s shown bits) e ∙ noted-some (scan s shown bits) (performChord B i (desk (s .position) shown bits)) (λ z. n (ap (λ (x : Play). x .answer) (a bits .outcome) ∙ z)));
-          same = a bits .same;
-        }),
-    rw (ap (λ (x : Scanned). x .opened) d) (ticked-add (s .opened) (a [] .opened)),
-  )
+  pub one-some : isPlaying (s .position .game) ≡ true → (o .answer ≡ 0 → ⊥) → (r : Scanned) → r ≡ yes (o .position)
+      → Scans (λ bits. chordOne B i (scan s shown bits)) w r shown′ w′
+  one-some e n r d =
+      λ bits.
+      record {
+        outcome =
+            ap (λ (x : Scanned). scan x shown′ bits) d
+            ∙ ap opened (a bits .outcome)
+            ∙ sym (one-plays B i (scan s shown bits) e ∙ noted-some (scan s shown bits) (performChord B i (desk (s .position) shown bits)) (λ z. n (ap (λ (x : Play). x .answer) (a bits .outcome) ∙ z)));
+        same = a bits .same;
+      }
 
 -- ---- what chords keep ----------------------------------------------------------------------------------------------------------------------
 
@@ -165,12 +157,11 @@ begun s = record { desk = s .desk; any = false; ever = s .ever }
 -- the loop over the cells
 pub record Scanning (B : List ℤ) (t₀ : Scanned) (shown₀ w₀ : List ℕ) (t : Scanned) (shown w : List ℕ) (i : ℕ) : Type 0 where
   pub same : (bits : List ℕ) → scan t shown bits ≡ chordScan B i (scan t₀ shown₀ bits)
-  pub ticked : Ticked (t₀ .opened) shown₀ (t .opened) shown
   pub back : w ≡ w₀
 
 pub scanning-start : (B : List ℤ) (t : Scanned) (shown w : List ℕ) → Scanning B t shown w t shown w 0
 unfolding chordScan
-scanning-start B t shown w = record { same = λ bits. refl; ticked = ticked-none (t .opened) shown; back = refl }
+scanning-start B t shown w = record { same = λ bits. refl; back = refl }
 
 module _ (B : List ℤ) (t₀ : Scanned) (shown₀ w₀ : List ℕ) (l : LaidAt B (t₀ .position) shown₀ w₀) (r : PassRoomAt (t₀ .position) shown₀)
     (t : Scanned) (shown w : List ℕ) (i : ℕ) (g : Scanning B t₀ shown₀ w₀ t shown w i) where
@@ -180,22 +171,16 @@ module _ (B : List ℤ) (t₀ : Scanned) (shown₀ w₀ : List ℕ) (l : LaidAt 
       (spent-scan B (l .fits .mined .valued) (λ s. false) (closedIn shown₀) (t₀ .position .settings) [] i (scan t₀ shown₀ [])
       (record { count = omega arith; sits = sits-start B (t₀ .position) shown₀ w₀ l r []; kept = refl }) .sits)
 
-  pub scanning-asks : t₀ .opened ≤ openIn shown₀ → i < t₀ .position .settings .rows * t₀ .position .settings .columns
-      → LaidAt B (t .position) shown w × ((i < t .position .settings .rows * t .position .settings .columns) × (PassRoomAt (t .position) shown × (t .opened ≤ openIn shown)))
-  scanning-asks n h = (
+  pub scanning-asks : i < t₀ .position .settings .rows * t₀ .position .settings .columns
+      → LaidAt B (t .position) shown w × ((i < t .position .settings .rows * t .position .settings .columns) × PassRoomAt (t .position) shown)
+  scanning-asks h = (
     laid-on B (t₀ .position) shown₀ w₀ l (desk (t .position) shown []) w scanning-sits (g .back),
-    (cell-on B (t₀ .position) shown₀ w₀ l (desk (t .position) shown []) i scanning-sits h, (scanning-sits .room, ticked-room (g .ticked) n)),
+    (cell-on B (t₀ .position) shown₀ w₀ l (desk (t .position) shown []) i scanning-sits h, scanning-sits .room),
   )
 
-  pub scanning-turn : (t′ : Scanned) (shown′ w′ : List ℕ) → Scans (λ bits. chordOne B i (scan t shown bits)) w t′ shown′ w′ × Ticked (t .opened) shown (t′ .opened) shown′
-      → Scanning B t₀ shown₀ w₀ t′ shown′ w′ (i + 1)
+  pub scanning-turn : (t′ : Scanned) (shown′ w′ : List ℕ) → Scans (λ bits. chordOne B i (scan t shown bits)) w t′ shown′ w′ → Scanning B t₀ shown₀ w₀ t′ shown′ w′ (i + 1)
   unfolding chordScan
-  scanning-turn t′ shown′ w′ e =
-      record {
-        same = λ bits. rw add-one (e .0 bits .outcome ∙ ap (chordOne B i) (g .same bits));
-        ticked = ticked-then (g .ticked) (e .1);
-        back = e .0 [] .same ∙ g .back;
-      }
+  scanning-turn t′ shown′ w′ e = record { same = λ bits. rw add-one (e bits .outcome ∙ ap (chordOne B i) (g .same bits)); back = e [] .same ∙ g .back }
 
   -- the cells up to the next useful one are passed over
   pub scanning-over : (r : ℕ) → First (chordIsUseful (t₀ .position .settings .rows) (t₀ .position .settings .columns) shown) i (t₀ .position .settings .rows * t₀ .position .settings .columns) r
@@ -210,17 +195,14 @@ module _ (B : List ℤ) (t₀ : Scanned) (shown₀ w₀ : List ℕ) (l : LaidAt 
             one-useless B j (scan t shown bits)
             (ap (λ (st : Settings). chordIsUseful (st .rows) (st .columns) shown j) (scanning-sits .settings) ∙ f .none j l (omega arith))))
             ∙ ap (λ (n : ℕ). chordScan B n (scan t₀ shown₀ bits)) e;
-        ticked = g .ticked;
         back = g .back;
       }
 
-  pub scanning-done : (s : Scanned) → i ≡ s .position .settings .rows * s .position .settings .columns → t₀ ≡ record { position = s .position; any = false; ever = s .ever; opened = s .opened }
-      → Scans (λ bits. chordRound B (scan s shown₀ bits)) w₀ t shown w × Ticked (s .opened) shown₀ (t .opened) shown
+  pub scanning-done : (s : Scanned) → i ≡ s .position .settings .rows * s .position .settings .columns → t₀ ≡ record { position = s .position; any = false; ever = s .ever }
+      → Scans (λ bits. chordRound B (scan s shown₀ bits)) w₀ t shown w
   unfolding chordRound
-  scanning-done s e b = (
-    (λ bits. record { outcome = g .same bits ∙ ap₂ (λ (n : ℕ) (x : Scanned). chordScan B n (scan x shown₀ bits)) e b; same = g .back }),
-    subst (λ (x : Scanned). Ticked (x .opened) shown₀ (t .opened) shown) b (g .ticked),
-  )
+  scanning-done s e b =
+      λ bits. record { outcome = g .same bits ∙ ap₂ (λ (n : ℕ) (x : Scanned). chordScan B n (scan x shown₀ bits)) e b; same = g .back }
 
 -- ---- the scans end -------------------------------------------------------------------------------------------------------------------------
 
@@ -260,7 +242,6 @@ module _ (B : List ℤ) (v : Valued B) (st : Settings) where
 -- the loop of the pass
 pub record Passing (B : List ℤ) (st : Settings) (s₀ : Scanned) (shown₀ w₀ : List ℕ) (s : Scanned) (shown w : List ℕ) (go : Bool) : Type 0 where
   pub loop : (bits : List ℕ) → Looping (chordRound B) chordMore size (On st) (rounds (chordRound B) chordMore (suc (st .rows * st .columns)) (scan s₀ shown₀ bits)) go (scan s shown bits)
-  pub ticked : Ticked (s₀ .opened) shown₀ (s .opened) shown
   pub back : w ≡ w₀
 
 abbrev pub toGo : List ℤ → Settings → Scanned → List ℕ → Bool → ℕ
@@ -283,45 +264,40 @@ module _ (B : List ℤ) (s₀ : Scanned) (shown₀ w₀ : List ℕ) (l : LaidAt 
             let h = closed-most shown₀ in
             looping-start (chordRound B) chordMore size (On of) keep less (suc (of .rows * of .columns)) (scan s₀ shown₀ bits)
             (sits-start B (s₀ .position) shown₀ w₀ l r bits) (omega (arith, l .fits .board));
-        ticked = ticked-none (s₀ .opened) shown₀;
         back = refl;
       }
 
   module _ (s : Scanned) (shown w : List ℕ) (go : Bool) (g : Passing B of s₀ shown₀ w₀ s shown w go) where
-    pub passing-asks : s₀ .opened ≤ openIn shown₀ → LaidAt B (s .position) shown w × (PassRoomAt (s .position) shown × (s .opened ≤ openIn shown))
-    passing-asks h =
+    pub passing-asks : LaidAt B (s .position) shown w × PassRoomAt (s .position) shown
+    passing-asks =
         let o = g .loop [] .fine in
-        (laid-on B (s₀ .position) shown₀ w₀ l (desk (s .position) shown []) w o (g .back), (o .room, ticked-room (g .ticked) h))
+        (laid-on B (s₀ .position) shown₀ w₀ l (desk (s .position) shown []) w o (g .back), o .room)
 
-    module _ (e : go ≡ true) (s′ : Scanned) (shown′ w′ : List ℕ) (go′ : Bool)
-        (d : Scans (λ bits. chordRound B (scan s shown bits)) w s′ shown′ w′ × Ticked (s .opened) shown (s′ .opened) shown′)
+    module _ (e : go ≡ true) (s′ : Scanned) (shown′ w′ : List ℕ) (go′ : Bool) (d : Scans (λ bits. chordRound B (scan s shown bits)) w s′ shown′ w′)
         (m : go′ ≡ (s′ .any && isPlaying (s′ .position .game))) where
       pub passing-turn : Passing B of s₀ shown₀ w₀ s′ shown′ w′ go′
       passing-turn =
           record {
             loop = λ bits.
                 looping-turn (chordRound B) chordMore size (On of) keep less (rounds (chordRound B) chordMore (suc (of .rows * of .columns)) (scan s₀ shown₀ bits))
-                go (scan s shown bits) (g .loop bits) e go′ (scan s′ shown′ bits) (d .0 bits .outcome) m;
-            ticked = ticked-then (g .ticked) (d .1);
-            back = d .0 [] .same ∙ g .back;
+                go (scan s shown bits) (g .loop bits) e go′ (scan s′ shown′ bits) (d bits .outcome) m;
+            back = d [] .same ∙ g .back;
           }
 
       pub passing-less : toGo B of s′ shown′ go′ < toGo B of s shown go
       passing-less =
           looping-less (chordRound B) chordMore size (On of) keep less (rounds (chordRound B) chordMore (suc (of .rows * of .columns)) (scan s₀ shown₀ []))
-          go (scan s shown []) (g .loop []) e go′ (scan s′ shown′ []) (d .0 [] .outcome) m
+          go (scan s shown []) (g .loop []) e go′ (scan s′ shown′ []) (d [] .outcome) m
 
-    pub passing-done : (p : Position) → s₀ ≡ record { position = p; any = false; ever = false; opened = 0 } → go ≡ false
-        → Scans (λ bits. chordPass B (desk p shown₀ bits)) w₀ s shown w × Ticked 0 shown₀ (s .opened) shown
+    pub passing-done : (p : Position) → s₀ ≡ record { position = p; any = false; ever = false } → go ≡ false
+        → Scans (λ bits. chordPass B (desk p shown₀ bits)) w₀ s shown w
     unfolding chordPass
-    passing-done p e h = (
-      (λ bits.
-          record {
-            outcome =
-                looping-done (chordRound B) chordMore size (On of) keep less (rounds (chordRound B) chordMore (suc (of .rows * of .columns)) (scan s₀ shown₀ bits))
-                go (scan s shown bits) (g .loop bits) h
-                ∙ ap (λ (x : Scanned). rounds (chordRound B) chordMore (suc (x .position .settings .rows * x .position .settings .columns)) (scan x shown₀ bits)) e;
-            same = g .back;
-          }),
-      subst (λ (x : Scanned). Ticked (x .opened) shown₀ (s .opened) shown) e (g .ticked),
-    )
+    passing-done p e h =
+        λ bits.
+        record {
+          outcome =
+              looping-done (chordRound B) chordMore size (On of) keep less (rounds (chordRound B) chordMore (suc (of .rows * of .columns)) (scan s₀ shown₀ bits))
+              go (scan s shown bits) (g .loop bits) h
+              ∙ ap (λ (x : Scanned). rounds (chordRound B) chordMore (suc (x .position .settings .rows * x .position .settings .columns)) (scan x shown₀ bits)) e;
+          same = g .back;
+        }

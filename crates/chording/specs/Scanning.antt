@@ -10,8 +10,8 @@ use Rattle.cells.specs.Contracts.{Leaves}
 use Rattle.chording.specs.declared.Scanned.{Scanned}
 
 -- a chord opened something
-abbrev pub yes : Position → ℕ → Scanned
-yes p n = record { position = p; any = true; ever = true; opened = n }
+abbrev pub yes : Position → Scanned
+yes p = record { position = p; any = true; ever = true }
 
 -- a scan of the code, with the shown board and the bits
 abbrev pub scan : Scanned → List ℕ → List ℕ → Scan

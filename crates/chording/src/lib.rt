@@ -11,18 +11,17 @@ ghost use Rattle.rules.specs.Grid.{cellOf};
 ghost use Rattle.rules.specs.Clicks.{desk, chordIsUseful};
 ghost use Rattle.rules.specs.Passes.{chordOne, chordRound, chordPass};
 ghost use Rattle.cells.specs.Ground.{Sized};
-ghost use Rattle.cells.specs.Contracts.{openIn, Ticked, LaidAt, PassRoomAt};
+ghost use Rattle.cells.specs.Contracts.{LaidAt, PassRoomAt};
 ghost use Rattle.chording.specs.Seeking.{First, usefulInside, OnlyEnds};
 ghost use Rattle.chording.specs.Scanning.{yes, scan, Scans};
 use rules::GameState;
 use rules::Position;
 
-// A position, whether this scan opened something, whether this pass did, and how many cells the pass opened.
+// A position, whether this scan opened something, and whether this pass did.
 pub struct Scanned {
     pub position: Position,
     pub any: bool,
     pub ever: bool,
-    pub opened: u32,
 }
 
 pub fn playing(g: GameState) -> bool
@@ -38,14 +37,13 @@ pub fn playing(g: GameState) -> bool
 }
 
 // A chord opened something: yes for the scan and for the pass, and no count of the hand.
-fn opened(position: Position, n: u32) -> Scanned
-    ensures { λ r. ⌜ r ≡ yes position n ⌝ }
+fn opened(position: Position) -> Scanned
+    ensures { λ r. ⌜ r ≡ yes position ⌝ }
 {
     Scanned {
         position,
         any: true,
         ever: true,
-        opened: n,
     }
 }
 
@@ -168,8 +166,7 @@ fn chord_one(s: Scanned, mines: &[i8], shown: &mut [u8], work: &mut [u16], cell:
     requires { ⌜ LaidAt (now mines) (s .position) (now shown) (now work) ⌝ }
     requires { ⌜ cell < s .position .settings .rows * s .position .settings .columns ⌝ }
     requires { ⌜ PassRoomAt (s .position) (now shown) ⌝ }
-    requires { ⌜ s .opened ≤ openIn (now shown) ⌝ }
-    ensures { λ r. ⌜ Scans (λ (b : List ℕ). chordOne (now (mines .entry)) cell (scan s (now (shown .entry)) b)) (now (work .entry)) r (now (shown .exit)) (now (work .exit)) × Ticked (s .opened) (now (shown .entry)) (r .opened) (now (shown .exit)) ⌝ }
+    ensures { λ r. ⌜ Scans (λ (b : List ℕ). chordOne (now (mines .entry)) cell (scan s (now (shown .entry)) b)) (now (work .entry)) r (now (shown .exit)) (now (work .exit)) ⌝ }
 {
     let p = s.position;
     let g = p.game;
@@ -180,16 +177,14 @@ fn chord_one(s: Scanned, mines: &[i8], shown: &mut [u8], work: &mut [u16], cell:
     if o.answer == 0 {
         return s;
     }
-    let n = s.opened + o.opened;
-    opened(o.position, n)
+    opened(o.position)
 }
 
 // One scan: the cells in row order, each on what the ones before it left. A cell that is not useful is passed over: it changes nothing.
 fn chord_round(s: Scanned, mines: &[i8], shown: &mut [u8], work: &mut [u16]) -> Scanned
     requires { ⌜ LaidAt (now mines) (s .position) (now shown) (now work) ⌝ }
     requires { ⌜ PassRoomAt (s .position) (now shown) ⌝ }
-    requires { ⌜ s .opened ≤ openIn (now shown) ⌝ }
-    ensures { λ r. ⌜ Scans (λ (b : List ℕ). chordRound (now (mines .entry)) (scan s (now (shown .entry)) b)) (now (work .entry)) r (now (shown .exit)) (now (work .exit)) × Ticked (s .opened) (now (shown .entry)) (r .opened) (now (shown .exit)) ⌝ }
+    ensures { λ r. ⌜ Scans (λ (b : List ℕ). chordRound (now (mines .entry)) (scan s (now (shown .entry)) b)) (now (work .entry)) r (now (shown .exit)) (now (work .exit)) ⌝ }
 {
     let position = s.position;
     let rows = position.settings.rows as usize;
@@ -199,7 +194,6 @@ fn chord_round(s: Scanned, mines: &[i8], shown: &mut [u8], work: &mut [u16]) -> 
         position,
         any: false,
         ever: s.ever,
-        opened: s.opened,
     };
     let mut i = useful_below(shown, rows, columns, 0);
     while i < cells {
@@ -224,13 +218,12 @@ pub fn goes_on(opened: bool, p: Position) -> bool
 pub fn chord_pass(p: Position, mines: &[i8], shown: &mut [u8], work: &mut [u16]) -> Scanned
     requires { ⌜ LaidAt (now mines) p (now shown) (now work) ⌝ }
     requires { ⌜ PassRoomAt p (now shown) ⌝ }
-    ensures { λ r. ⌜ Scans (λ (b : List ℕ). chordPass (now (mines .entry)) (desk p (now (shown .entry)) b)) (now (work .entry)) r (now (shown .exit)) (now (work .exit)) × Ticked 0 (now (shown .entry)) (r .opened) (now (shown .exit)) ⌝ }
+    ensures { λ r. ⌜ Scans (λ (b : List ℕ). chordPass (now (mines .entry)) (desk p (now (shown .entry)) b)) (now (work .entry)) r (now (shown .exit)) (now (work .exit)) ⌝ }
 {
     let mut s = Scanned {
         position: p,
         any: false,
         ever: false,
-        opened: 0,
     };
     let mut go = true;
     while go {

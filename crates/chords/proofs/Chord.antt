@@ -9,7 +9,6 @@ use borrow.Author.Tests.{ltb-true}
 use lib.Dec.{eqb, ltb}
 use lib.ListN.{length, getD}
 use lib.IntN.{ℤ}
-use Rattle.rules.specs.declared.Counts.{Counts}
 use Rattle.rules.specs.declared.Secrets.{Secrets}
 use Rattle.rules.specs.Grid.{around}
 use Rattle.rules.specs.Opening.{closedAt, refreshed}
@@ -53,13 +52,13 @@ module _ (B : List ℤ) (v : Valued B) (i : ℕ) (d : Desk) (long : length (d .s
       let R = rowsOf d in
       let C = columnsOf d in
       let o = refreshed B R C st (d .shown) in
-      let x = ended B 3 (chordCounts B st d) o in
-      let e : Ending 3 (chordCounts B st d) (o .shown) x = ending B 3 (chordCounts B st d) o in
+      let x = ended 3 (chordCounts B st d) o in
+      let e : Ending 3 (chordCounts B st d) (o .shown) x = ending 3 (chordCounts B st d) o in
       let less : closedIn (x .desk .shown) < closedIn (d .shown) = rw (e .board) (opens-less B R C v st (d .shown) long some few all) in
       fell (λ z. ⊎-elim (λ h. omega arith) (λ h. omega arith) (e .answer)) less (ap length (e .board) ∙ opening-length B R C st (d .shown)) (e .settings) (e .bits)
       (λ r.
       let s : x .desk .position .secrets .«solved_chord» ≡ d .position .secrets .«solved_chord» + lones B R C st + openingsJudged B R C (d .shown) st = ap (λ (k : Secrets). k .«solved_chord») (e .secrets) in
-      let f : x .desk .position .counts .flag ≡ d .position .counts .flag = ap (λ (k : Counts). k .flag) (e .counts) in
+      let f : x .desk .position .counts .flag ≡ d .position .counts .flag = e .flag in
       let a = judged-lones-length B R C (d .shown) st in
       record { flag = omega (arith, r .flag); solved = omega (arith, r .solved) })
 

@@ -15,7 +15,6 @@ use Rattle.rules.specs.declared.Cells.{Cells}
 use Rattle.rules.specs.Words.{stackOf}
 use Rattle.rules.specs.Judging.{openingsJudged, lones}
 use Rattle.cells.specs.Ground.{Below}
-use Rattle.opening.proofs.Ticking.{ticked-none}
 use Rattle.cells.proofs.Words.{stack-length}
 use Rattle.judging.proofs.Judging.{judged-length}
 
@@ -41,8 +40,8 @@ module _ (B : List ℤ) (p : Position) (shown work : List ℕ) (cells : List ℕ
   chord-added lone judged r work′ l j e = λ bits. record { outcome = simp (e, l, j .outcome); same = j .same }
 
 module _ (B : List ℤ) (p : Position) (shown work : List ℕ) (i : ℕ) (u : Bool) (test : u ≡ chordIsUseful (p .settings .rows) (p .settings .columns) shown i) where
-  pub chord-none : u ≡ false → Acts (performChord B i) p shown work (record { answer = 0; opened = 0; position = p }) shown work
-  chord-none e = λ bits. record { outcome = sym (chord-idle B i (desk p shown bits) (sym test ∙ e)); same = refl; opened = ticked-none 0 shown }
+  pub chord-none : u ≡ false → Acts (performChord B i) p shown work (record { answer = 0; position = p }) shown work
+  chord-none e = λ bits. record { outcome = sym (chord-idle B i (desk p shown bits) (sym test ∙ e)); same = refl }
 
   module _ (c : Cells) (k : Collected (closedAround (p .settings .rows) (p .settings .columns) shown i) 8 c) (q : Position) (work′ : List ℕ)
       (a : Adds (chordCounts B (stackOf (c .at) (c .n))) p shown work q work′) where
@@ -58,7 +57,7 @@ module _ (B : List ℤ) (p : Position) (shown work : List ℕ) (i : ℕ) (u : Bo
     pub chord-done : u ≡ true → (r : Played) (shown′ work″ : List ℕ)
         → Acts (opensWith B 3 (stackOf (c .at) (c .n))) q shown work′ r shown′ work″ → Acts (performChord B i) p shown work r shown′ work″
     unfolding chordOpens
-    chord-done e r shown′ work″ o = λ bits. record { outcome = o bits .outcome ∙ way bits; same = o bits .same ∙ a bits .same; opened = o bits .opened }
+    chord-done e r shown′ work″ o = λ bits. record { outcome = o bits .outcome ∙ way bits; same = o bits .same ∙ a bits .same }
       where
         start : (st : List ℕ) (bits : List ℕ) → opensWith B 3 st (chordCounts B st (desk p shown bits)) ≡ chordOpens B st (desk p shown bits)
         start st bits = refl

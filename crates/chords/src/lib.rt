@@ -113,7 +113,6 @@ pub fn perform_chord(
     if !chord_is_useful(shown, rows, columns, cell) {
         return Played {
             answer: 0,
-            opened: 0,
             position: p,
         };
     }

@@ -16,13 +16,13 @@ use Rattle.rules.specs.States.{withLeft, withLce, withSolvedLeft}
 use Rattle.rules.specs.Board.{faceAt, mineAt, loneAt}
 use Rattle.rules.specs.Opening.{refreshed}
 use Rattle.rules.specs.Judging.{judgedLeft}
-use Rattle.rules.specs.Clicks.{Desk, desk, rowsOf, columnsOf, isWon, ended, addLeft, solvesLeft, leftCounts, leftOpens, leftClick}
+use Rattle.rules.specs.Clicks.{Desk, desk, rowsOf, columnsOf, ended, addLeft, solvesLeft, leftCounts, leftOpens, leftClick}
 use Rattle.cells.specs.Ground.{Below}
 use Rattle.cells.specs.Contracts.{Ticked, Laid, LaidAt, RoomAt, play, Leaves, Acts}
-use Rattle.opening.proofs.Ticking.{ticked-none, ticked-number, safe-number}
 use Rattle.opening.specs.Parts.{opened}
-use Rattle.clicks.specs.Parts.{endSafe, NumberAt, SpreadsAt, Adds, opensWith, leftAdds, Collected}
-use Rattle.clicks.proofs.Ends.{ended-safe, opened-number}
+use Rattle.opening.proofs.Ticking.{ticked-number, safe-number}
+use Rattle.clicks.specs.Parts.{NumberAt, SpreadsAt, Adds, opensWith, leftAdds, Collected}
+use Rattle.clicks.proofs.Ends.{opened-number}
 
 -- ---- left + 1 leaves all else ----------------------------------------------------------------------------------------------------------
 
@@ -37,13 +37,13 @@ module _ (p q : Position) {n : ℕ} (e : q ≡ withLeft p n) where
   added-room r = rw e (r .lce, r .solvedLeft)
 
 module _ (B : List ℤ) (i : ℕ) (p : Position) (shown work : List ℕ) (q : Position) (added : q ≡ withLeft p (p .counts .left + 1)) where
-  pub left-idle : (getD shown i 0 ≡ 10 → ⊥) → Acts (leftClick B i) p shown work (record { answer = 0; opened = 0; position = q }) shown work
+  pub left-idle : (getD shown i 0 ≡ 10 → ⊥) → Acts (leftClick B i) p shown work (record { answer = 0; position = q }) shown work
   unfolding leftClick
-  left-idle n = λ bits. record { outcome = simp (ne-eqb _ _ n, added); same = refl; opened = ticked-none 0 shown }
+  left-idle n = λ bits. record { outcome = simp (ne-eqb _ _ n, added); same = refl }
 
   pub left-closed : getD shown i 0 ≡ 10 → (r : Played) (shown′ work′ : List ℕ) → Acts (leftOpens B i) q shown work r shown′ work′ → Acts (leftClick B i) p shown work r shown′ work′
   unfolding leftClick
-  left-closed ten r shown′ work′ o = λ bits. record { outcome = o bits .outcome ∙ simp (eq-eqb _ _ ten, added); same = o bits .same; opened = o bits .opened }
+  left-closed ten r shown′ work′ o = λ bits. record { outcome = o bits .outcome ∙ simp (eq-eqb _ _ ten, added); same = o bits .same }
 
 -- ---- a number --------------------------------------------------------------------------------------------------------------------------
 
@@ -59,29 +59,29 @@ module _ (B : List ℤ) (p : Position) (shown : List ℕ) (i f : ℕ) (lone : Bo
   unfolding solvesLeft
   number-solves bits = rw (ne-eqb _ _ (λ e. h .nonzero (h .own ∙ e))) (sym (h .alone))
 
-  number-opens : (bits : List ℕ) → ended B 2 (leftCounts B (addLeft (desk p shown bits)) i) (opened (set shown i f) false) ≡ leftClick B i (desk p shown bits)
+  number-opens : (bits : List ℕ) → ended 2 (leftCounts B (addLeft (desk p shown bits)) i) (opened (set shown i f) false) ≡ leftClick B i (desk p shown bits)
   unfolding leftClick leftOpens
   number-opens bits =
       rw (eq-eqb _ _ (h .closed), ne-eqb (faceAt B i) 15 (λ e. h .safe (h .own ∙ e)), h .own)
-      (ap (ended B 2 (leftCounts B (addLeft (desk p shown bits)) i))
+      (ap (ended 2 (leftCounts B (addLeft (desk p shown bits)) i))
       (opened-number B (p .settings .rows) (p .settings .columns) i shown (h .closed) (λ e. h .nonzero (h .own ∙ e)) (λ e. h .safe (h .own ∙ e))))
 
+  -- one cell is opened
+  number-ticked : Ticked 0 shown 1 (set shown i f)
+  number-ticked =
+      ticked-number 0 shown i f (eq-eqb _ _ (h .closed))
+      (safe-number B shown i f (h .mined .valued) (h .mined .long ∙ sym (h .board)) (eq-eqb _ _ (h .closed)) (h .own) (h .safe))
+
   pub number-done : (q z : Position) → q ≡ withLeft p (p .counts .left + 1)
-      → z ≡ withSolvedLeft (withLce q (q .counts .lce + 1)) (q .secrets .«solved_left» + bit lone) → (won : Bool) → won ≡ isWon B (set shown i f)
-      → (r : Played) → r ≡ endSafe 2 1 won z → (bits : List ℕ) → play r (set shown i f) bits ≡ leftClick B i (desk p shown bits)
-  number-done q z added counted won w r e bits =
-      ended-safe B 2 z shown (set shown i f) bits refl won w r e
-      ∙ ap (λ (d : Desk). ended B 2 d (opened (set shown i f) false)) counts
+      → z ≡ withSolvedLeft (withLce q (q .counts .lce + 1)) (q .secrets .«solved_left» + bit lone) → (r : Played)
+      → ((past shown bits : List ℕ) → Ticked 0 past 1 shown → play r shown bits ≡ ended 2 (desk z past bits) (opened shown false)) → (bits : List ℕ) → play r (set shown i f) bits ≡ leftClick B i (desk p shown bits)
+  number-done q z added counted r e bits =
+      e shown (set shown i f) bits number-ticked
+      ∙ ap (λ (d : Desk). ended 2 d (opened (set shown i f) false)) counts
       ∙ number-opens bits
     where
       counts : desk z shown bits ≡ leftCounts B (addLeft (desk p shown bits)) i
       counts = rw (counted, added, number-solves bits) refl
-
-  -- and it is counted
-  pub number-ticked : (n : ℕ) → n ≡ 1 → Ticked 0 shown n (set shown i f)
-  number-ticked n e =
-      let t = ticked-number 0 shown i f (eq-eqb _ _ (h .closed)) (safe-number B shown i f (h .mined .valued) (h .mined .long ∙ sym (h .board)) (eq-eqb _ _ (h .closed)) (h .own) (h .safe)) in
-      rw e t
 
 -- ---- a 0 or a mine ---------------------------------------------------------------------------------------------------------------------
 
@@ -108,7 +108,7 @@ left-opens : (B : List ℤ) (i : ℕ) (d : Desk) → opensWith B 2 (i ∷ []) (l
 unfolding leftOpens
 left-opens B i d = go (mineAt B i)
   where
-    go : (b : Bool) → opensWith B 2 (i ∷ []) (pick b d (leftCounts B d i)) ≡ ended B 2 (pick b d (leftCounts B d i)) (refreshed B (rowsOf d) (columnsOf d) (i ∷ []) (d .shown))
+    go : (b : Bool) → opensWith B 2 (i ∷ []) (pick b d (leftCounts B d i)) ≡ ended 2 (pick b d (leftCounts B d i)) (refreshed B (rowsOf d) (columnsOf d) (i ∷ []) (d .shown))
     go true = refl
     go false = refl
 
@@ -123,7 +123,7 @@ module _ (B : List ℤ) (i : ℕ) (p z : Position) (shown work work′ : List �
 
   pub spread-done : (c : Cells) → Collected (i ∷ []) 1 c → (r : Played) (shown′ work″ : List ℕ) → Acts (opensWith B 2 (stackOf (c .at) (c .n))) z shown work′ r shown′ work″
       → Acts (leftOpens B i) p shown work r shown′ work″
-  spread-done c k r shown′ work″ o = λ bits. record { outcome = o bits .outcome ∙ way bits; same = o bits .same ∙ a bits .same; opened = o bits .opened }
+  spread-done c k r shown′ work″ o = λ bits. record { outcome = o bits .outcome ∙ way bits; same = o bits .same ∙ a bits .same }
     where
       way : (bits : List ℕ) → opensWith B 2 (stackOf (c .at) (c .n)) (desk z shown bits) ≡ leftOpens B i (desk p shown bits)
       way bits =

@@ -7,20 +7,13 @@ use lib.ListN.{length, getD, set}
 use lib.IntN.{ℤ}
 use Rattle.rules.specs.declared.Settings.{Settings}
 use Rattle.rules.specs.declared.Position.{Position}
-use Rattle.rules.specs.declared.Played.{Played}
 use Rattle.rules.specs.declared.Cells.{Cells}
-use Rattle.rules.specs.declared.GameState.the-variants.{Win}
 use Rattle.rules.specs.Words.{pick, stackOf}
-use Rattle.rules.specs.States.{withGame}
 use Rattle.rules.specs.Board.{faceAt, mineAt, loneAt}
 use Rattle.rules.specs.Opening.{refreshed}
 use Rattle.rules.specs.Clicks.{Desk, Play, desk, rowsOf, columnsOf, ended, leftCounts}
 use Rattle.cells.specs.Ground.{Mined}
 use Rattle.cells.specs.Contracts.{Leaves}
-
--- the position where no mine was hit, with the answer given and what was opened
-abbrev pub endSafe : ℕ → ℕ → Bool → Position → Played
-endSafe n opened won p = record { answer = n; opened = opened; position = pick won (withGame p Win) p }
 
 -- a closed number of the board, and whether it is lone
 pub record NumberAt (B : List ℤ) (s : Settings) (shown : List ℕ) (i face : ℕ) (lone : Bool) : Type 0 where
@@ -49,7 +42,7 @@ Adds f p shown work r work′ = (bits : List ℕ) → Leaves (desk r shown bits)
 
 -- the cells of a stack are opened, with an answer where no mine is hit
 abbrev pub opensWith : List ℤ → ℕ → List ℕ → Desk → Play
-opensWith B n given d = ended B n d (refreshed B (rowsOf d) (columnsOf d) given (d .shown))
+opensWith B n given d = ended n d (refreshed B (rowsOf d) (columnsOf d) given (d .shown))
 
 -- a mine counts nothing, any other cell lce + 1 and solved_left
 abbrev pub leftAdds : List ℤ → ℕ → Desk → Desk

@@ -2,16 +2,17 @@
 // The contracts cite rules' Clicks, and specs/Parts for what the parts of a left click ask and do.
 ghost use mathlib.Core.Path.{_≡_};
 ghost use mathlib.Core.List.{List, [], _∷_};
-ghost use Prim.Native.Nat.{ℕ, _+_, _*_, _<_, _≤_};
+ghost use Prim.Native.Nat.{ℕ, _+_, _-_, _*_, _<_, _≤_};
 ghost use lib.ListN.{length};
+ghost use lib.IntN.{ℤ};
 ghost use Rattle.rules.specs.Words.{stackOf, bit};
 ghost use Rattle.rules.specs.States.{withLeft, withLce, withSolvedLeft};
 ghost use Rattle.rules.specs.Grid.{cellOf};
 ghost use Rattle.rules.specs.Clicks.{desk, ended, leftOpens, leftClick};
-ghost use Rattle.cells.specs.Ground.{Valued, Below};
+ghost use Rattle.cells.specs.Ground.{Below};
 ghost use Rattle.cells.specs.Contracts.{Ticked, LaidAt, RoomAt, play, Acts};
 ghost use Rattle.opening.specs.Parts.{opened};
-ghost use Rattle.clicks.specs.Parts.{endSafe, NumberAt, SpreadsAt, Told, Adds, opensWith, leftAdds, Collected};
+ghost use Rattle.clicks.specs.Parts.{NumberAt, SpreadsAt, Told, Adds, opensWith, leftAdds, Collected};
 use opening::Outcome;
 use rules::Cells;
 use rules::GameState;
@@ -20,54 +21,41 @@ use rules::Position;
 
 // ---- opening ---------------------------------------------------------------------------------------------------------------------------
 
-// How an opening that hits no mine ends: Win where no safe cell is left; the answer is the one given.
-fn end_safe(p: Position, won: bool, n: u16, opened: u32) -> Played
-    ensures { λ r. ⌜ r ≡ endSafe n opened won p ⌝ }
+// One number less another, down to 0.
+fn less(a: u32, b: u32) -> u32
+    ensures { λ r. ⌜ r ≡ a - b ⌝ }
 {
-    if won {
-        let q = p.with_game(GameState::Win);
+    if b <= a {
+        return a - b;
+    }
+    0
+}
+
+// How an opening ends: as many safe cells fewer still closed as it opened; a mine is Loss and 4; else Win where none is left, and the answer is
+// the one given. The boards are not read.
+fn end_opening(p: Position, o: Outcome, n: u16) -> Played
+    ensures { λ r. ⌜ ((past shown bits : List ℕ) → Ticked 0 past (o .opened) shown → play r shown bits ≡ ended n (desk p past bits) (opened shown (o .hit))) ⌝ }
+{
+    let left = less(p.counts.unopened, o.opened);
+    let q = p.with_unopened(left);
+    if o.hit {
+        let z = q.with_game(GameState::Loss);
+        return Played {
+            answer: 4,
+            position: z,
+        };
+    }
+    if left == 0 {
+        let z = q.with_game(GameState::Win);
         return Played {
             answer: n,
-            opened,
-            position: q,
+            position: z,
         };
     }
     Played {
         answer: n,
-        opened,
-        position: p,
+        position: q,
     }
-}
-
-// How an opening ends: a mine is Loss and 4; else the win is tested, and the answer is the one given. What it opened is counted either way.
-fn end_opening(p: Position, mines: &[i8], shown: &[u8], near: usize, o: Outcome, n: u16) -> Played
-    requires { ⌜ length (now mines) ≡ length (now shown) ⌝ }
-    requires { ⌜ Valued (now mines) ⌝ }
-    requires { ⌜ near ≤ length (now shown) ⌝ }
-    ensures { λ r. ⌜ ((past bits : List ℕ) → play r (now (shown .entry)) bits ≡ ended (now (mines .entry)) n (desk p past bits) (opened (now (shown .entry)) (o .hit))) × (r .opened ≡ o .opened) ⌝ }
-{
-    if o.hit {
-        let q = p.with_game(GameState::Loss);
-        return Played {
-            answer: 4,
-            opened: o.opened,
-            position: q,
-        };
-    }
-    let won = winning::is_win_near(mines, shown, near);
-    end_safe(p, won, n, o.opened)
-}
-
-// The first of the cells, or 0 where it is no place of the board.
-fn first_of(cells: Cells, length: usize) -> usize
-    ensures { λ r. ⌜ r ≤ length ⌝ }
-{
-    let at = cells.at;
-    let first = at[0] as usize;
-    if length < first {
-        return 0;
-    }
-    first
 }
 
 // Opens the cells, and ends with the answer given where no mine is hit.
@@ -87,8 +75,7 @@ pub fn open_cells(
     let rows = p.settings.rows as usize;
     let columns = p.settings.columns as usize;
     let o = opening::refresh_board(mines, shown, work, rows, columns, cells);
-    let near = first_of(cells, shown.len());
-    end_opening(p, mines, shown, near, o, n)
+    end_opening(p, o, n)
 }
 
 // ---- left ------------------------------------------------------------------------------------------------------------------------------
@@ -116,23 +103,19 @@ fn left_counts(p: Position, solves: bool) -> Position
 // LEFT on a closed number, lone or not: it is shown, and opens nothing more.
 // Whether it is lone is asked before, and the position comes last: so the compiler takes this into the loop over a row of events, which then
 // keeps its position at hand.
-pub fn left_number(
-    p: Position,
-    mines: &[i8],
-    shown: &mut [u8],
-    cell: usize,
-    face: u8,
-    lone: bool,
-) -> Played
-    requires { ⌜ NumberAt (now mines) (p .settings) (now shown) cell face lone ⌝ }
+pub fn left_number(p: Position, shown: &mut [u8], cell: usize, face: u8, lone: bool) -> Played
+    requires { ⌜ cell < length (now shown) ⌝ }
     requires { ⌜ RoomAt p (now shown) ⌝ }
-    ensures { λ r. ⌜ ((bits : List ℕ) → play r (now (shown .exit)) bits ≡ leftClick (now (mines .entry)) cell (desk p (now (shown .entry)) bits)) × Ticked 0 (now (shown .entry)) (r .opened) (now (shown .exit)) ⌝ }
+    ensures { λ r. ⌜ ((B : List ℤ) (bits : List ℕ) → NumberAt B (p .settings) (now (shown .entry)) cell face lone → play r (now (shown .exit)) bits ≡ leftClick B cell (desk p (now (shown .entry)) bits)) ⌝ }
 {
     shown[cell] = face;
-    let won = winning::is_win_near(mines, shown, cell);
     let q = add_left(p);
     let z = left_counts(q, lone);
-    end_safe(z, won, 2, 1)
+    let o = Outcome {
+        hit: false,
+        opened: 1,
+    };
+    end_opening(z, o, 2)
 }
 
 // A mine counts nothing; the opening of a 0 is judged before it opens.
@@ -223,7 +206,6 @@ pub fn left_click(
         let q = add_left(p);
         return Played {
             answer: 0,
-            opened: 0,
             position: q,
         };
     }
@@ -231,7 +213,7 @@ pub fn left_click(
     if is_number(face) {
         let rows = p.settings.rows as usize;
         let lone = lones::lone_number(mines, rows, columns, row, column);
-        return left_number(p, mines, shown, cell, face, lone);
+        return left_number(p, shown, cell, face, lone);
     }
     let q = add_left(p);
     left_spreads(q, mines, shown, work, cell, face)

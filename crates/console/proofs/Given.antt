@@ -120,7 +120,7 @@ module _ (B : List ℤ) (f : FlatPosition) (shown bits : List ℕ) where
   reset-back = go (setupRefusal (settingsIn f) B shown bits)
     where
       d : Desk
-      d = freshDesk (settingsIn f)
+      d = freshDesk (settingsIn f) B
 
       out : Bool → ℕ → Leaves FlatAnswer
       out b n = resetOr f (pick b (setUp (answers 0 (d .position) 0) (d .shown) (d .bits)) (setUp (refuses B (positionIn f) n) shown bits))
@@ -135,6 +135,6 @@ module _ (B : List ℤ) (f : FlatPosition) (shown bits : List ℕ) where
 -- setup is given no position: a refused one gives the fresh position of its settings
 pub setup-back : (rows columns mode question rules : ℕ) (B : List ℤ) (shown bits : List ℕ) → (setupRefusal (settingsOf rows columns mode question rules) B shown bits ≡ 0 → ⊥)
     → setupFlat rows columns mode question rules B shown bits
-    ≡ leaves (refusesFlat B (flatOf (freshOf (settingsOf rows columns mode question rules))) (setupRefusal (settingsOf rows columns mode question rules) B shown bits)) (shown ∷ bits ∷ [])
+    ≡ leaves (refusesFlat B (flatOf (freshOf (settingsOf rows columns mode question rules) 0)) (setupRefusal (settingsOf rows columns mode question rules) B shown bits)) (shown ∷ bits ∷ [])
 unfolding setupFlat
 setup-back rows columns mode question rules B shown bits h = ap flatSetUp (setup-refused (settingsOf rows columns mode question rules) B shown bits h)

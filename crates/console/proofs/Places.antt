@@ -39,7 +39,7 @@ module _ (fit : Bool) (B : List ℤ) (f : FlatPosition) (shown bits : List ℕ) 
   d = desk (positionIn f) shown bits
 
   abbrev before : List Row
-  before = settingsRows (settingsIn f) fit B ++ (row 261 (shownLawful B d) ∷ row 262 (bitsLawful B d) ∷ row 263 (countsLawful d) ∷ [])
+  before = settingsRows (settingsIn f) fit B ++ (row 261 (shownLawful B d) ∷ row 262 (bitsLawful B d) ∷ row 263 (countsLawful B d) ∷ [])
 
   abbrev pub flatRows : List Row
   flatRows = before ++ (row 264 (means f && statesLawful B d) ∷ [])

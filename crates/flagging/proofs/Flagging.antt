@@ -14,10 +14,9 @@ use Rattle.rules.specs.Lent.{withBit}
 use Rattle.rules.specs.Opening.{closedAt}
 use Rattle.rules.specs.Clicks.{Desk, desk, bitsWith}
 use Rattle.rules.specs.Passes.{flagOne, flagAll}
-use Rattle.cells.specs.Contracts.{closedIn, openIn}
+use Rattle.cells.specs.Contracts.{closedIn}
 use Rattle.bits.proofs.Bits.{bit-length}
 use Rattle.opening.proofs.Cost.{closed-set}
-use Rattle.opening.proofs.Ticking.{ticked-flag}
 
 module _ (B : List ℤ) where
   -- ---- one cell --------------------------------------------------------------------------------------------------------------------------
@@ -39,18 +38,17 @@ module _ (B : List ℤ) where
   unfolding flagOne
   flag-no cell d e = rw e
 
-  -- ---- THE LAW of a flag: flags and closed cells together stay as many, no cell opens, the lists stay as long, and no other count changes -----
+  -- ---- THE LAW of a flag: flags and closed cells together stay as many, the lists as long, and no other count changes ------------------------
 
   pub record Even (d d′ : Desk) : Type 0 where
     pub sum : d′ .position .counts .flag + closedIn (d′ .shown) ≡ d .position .counts .flag + closedIn (d .shown)
     pub few : closedIn (d′ .shown) ≤ closedIn (d .shown)
-    pub opens : openIn (d′ .shown) ≡ openIn (d .shown)
     pub board : length (d′ .shown) ≡ length (d .shown)
     pub bytes : length (d′ .bits) ≡ length (d .bits)
     pub only : d′ .position ≡ withFlag (d .position) (d′ .position .counts .flag)
 
   even-none : (d : Desk) → Even d d
-  even-none d = record { sum = refl; few = omega arith; opens = refl; board = refl; bytes = refl; only = refl }
+  even-none d = record { sum = refl; few = omega arith; board = refl; bytes = refl; only = refl }
 
   even-one : (cell : ℕ) (d : Desk) → Even d (flagOne B cell d)
   even-one cell d = go (closedAt (d .shown) cell) refl
@@ -58,12 +56,10 @@ module _ (B : List ℤ) where
       go : (b : Bool) → closedAt (d .shown) cell ≡ b → Even d (flagOne B cell d)
       go true e =
           let l = closed-set (d .shown) cell 11 e (λ h. omega arith) in
-          let t = ticked-flag 0 (d .shown) cell e .counted in
           rw (flag-yes cell d e)
           (record {
             sum = omega arith;
             few = omega arith;
-            opens = omega arith;
             board = length-set (d .shown) cell 11;
             bytes = mark-length cell (d .bits);
             only = refl;
@@ -75,7 +71,6 @@ module _ (B : List ℤ) where
       record {
         sum = b .sum ∙ a .sum;
         few = omega (arith, a .few, b .few);
-        opens = b .opens ∙ a .opens;
         board = b .board ∙ a .board;
         bytes = b .bytes ∙ a .bytes;
         only = b .only ∙ ap (λ (p : Position). withFlag p (d″ .position .counts .flag)) (a .only);

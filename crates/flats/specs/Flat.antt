@@ -43,7 +43,7 @@ positionIn f = record {
   middle = isOn (f .middle);
   preflags = f .preflags;
   events = f .events;
-  counts = record { left = f .left; right = f .right; double = f .doubles; lce = f .lce; dce = f .dce; flag = f .flag };
+  counts = record { left = f .left; right = f .right; double = f .doubles; lce = f .lce; dce = f .dce; flag = f .flag; unopened = f .unopened };
   secrets = record { rce = f .rce; «solved_left» = f .«solved_left»; «solved_chord» = f .«solved_chord» };
 }
 
@@ -66,6 +66,7 @@ flatOf p = record {
   lce = p .counts .lce;
   dce = p .counts .dce;
   flag = p .counts .flag;
+  unopened = p .counts .unopened;
   rce = p .secrets .rce;
   «solved_left» = p .secrets .«solved_left»;
   «solved_chord» = p .secrets .«solved_chord»;

@@ -12,7 +12,7 @@ use rules::Secrets;
 use rules::Settings;
 use rules::Value;
 
-// The position, with its states as bytes: 52 bytes without padding, so that a refusal can give every one of them back. `double` is a word of C.
+// The position, with its states as bytes: 56 bytes without padding, so that a refusal can give every one of them back. `double` is a word of C.
 #[repr(C)]
 pub struct FlatPosition {
     pub rows: u8,
@@ -31,12 +31,13 @@ pub struct FlatPosition {
     pub lce: u32,
     pub dce: u32,
     pub flag: u32,
+    pub unopened: u32,
     pub rce: u32,
     pub solved_left: u32,
     pub solved_chord: u32,
 }
 
-// What a call on a position answers: 60 bytes without padding. The place is two bytes, 255 255 where there is none.
+// What a call on a position answers: 64 bytes without padding. The place is two bytes, 255 255 where there is none.
 #[repr(C)]
 pub struct FlatAnswer {
     pub number: u16,
@@ -121,6 +122,7 @@ pub fn position_in(f: FlatPosition) -> Position
         lce: f.lce,
         dce: f.dce,
         flag: f.flag,
+        unopened: f.unopened,
     };
     let secrets = Secrets {
         rce: f.rce,
@@ -161,6 +163,7 @@ fn flat(p: Position) -> FlatPosition
         lce: p.counts.lce,
         dce: p.counts.dce,
         flag: p.counts.flag,
+        unopened: p.counts.unopened,
         rce: p.secrets.rce,
         solved_left: p.secrets.solved_left,
         solved_chord: p.secrets.solved_chord,

@@ -19,7 +19,6 @@ use Rattle.rules.specs.States.{withEvents}
 use Rattle.rules.specs.Clicks.{desk, done}
 use Rattle.rules.specs.Step.{pointerOf}
 use Rattle.cells.proofs.Words.{and-left, and-right}
-use Rattle.cells.proofs.Contracts.{plays-here}
 use Rattle.flows.specs.Runs.{isAt, moveAt, Moves}
 use Rattle.brief.proofs.Heard.{move-steps}
 use Rattle.game.proofs.Steps.{step-decoded}
@@ -66,13 +65,13 @@ pointer-of Bad e = absurd (false≢true e)
 module _ (B : List ℤ) (events : List ℕ) (at₀ : ℕ) (o₀ : Played) (shown₀ bits₀ work₀ shown bits work : List ℕ) (m : length events % 3 ≡ 0) where
   -- the play of n moves
   abbrev counted : Position → ℕ → Played
-  counted p n = record { answer = 0; opened = 0; position = withEvents p (p .events + n) }
+  counted p n = record { answer = 0; position = withEvents p (p .events + n) }
 
   flow-move : (at : ℕ) (o : Played) → moveAt (o .position .settings) events at ≡ true → o .position .events < 65535 → at + 3 ≤ length events
       → Flowing B events at₀ o₀ shown₀ bits₀ work₀ at o shown bits work → Flowing B events at₀ o₀ shown₀ bits₀ work₀ (at + 3) (counted (o .position) 1) shown bits work
   flow-move at o t l h f =
       flow-on B events at o (counted (o .position) 1) shown bits work shown bits work h
-      (plays-here played refl)
+      (record { outcome = played; same = refl })
       at₀ o₀ shown₀ bits₀ work₀ f m (omega arith)
     where
       row : ℕ
@@ -99,7 +98,7 @@ module _ (B : List ℤ) (events : List ℕ) (at₀ : ℕ) (o₀ : Played) (shown
       let r = v .room in
       let one = flow-move at o (ap (moveAt (o .position .settings) events) (zero-on at) ∙ v .each 0 (omega arith)) (omega arith) (omega arith) f in
       let rest = flow-moves n (at + 3) (counted (o .position) 1) (record { room = omega arith; each = λ k h. ap (moveAt (o .position .settings) events) (one-on at k) ∙ v .each (suc k) (omega arith) }) (omega arith) one in
-      subst (λ (x : ℕ × ℕ). Flowing B events at₀ o₀ shown₀ bits₀ work₀ (x .0) (record { answer = 0; opened = 0; position = withEvents (o .position) (x .1) }) shown bits work)
+      subst (λ (x : ℕ × ℕ). Flowing B events at₀ o₀ shown₀ bits₀ work₀ (x .0) (record { answer = 0; position = withEvents (o .position) (x .1) }) shown bits work)
       (ap₂ (λ (a b : ℕ). (a, b)) (place-on at n) (omega arith)) rest
 
   -- some moves, as the code counts them

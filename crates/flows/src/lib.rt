@@ -8,7 +8,7 @@ ghost use Rattle.rules.specs.States.{withEvents};
 ghost use Rattle.rules.specs.Clicks.{desk};
 ghost use Rattle.rules.specs.Step.{stepOn};
 ghost use Rattle.keep.specs.Kept.{LawfulAt};
-ghost use Rattle.cells.specs.Contracts.{Leaves, play, Plays};
+ghost use Rattle.cells.specs.Contracts.{Plays};
 ghost use Rattle.game.specs.Core.{Blank};
 ghost use Rattle.flows.specs.Runs.{flowOn, moveAt, Moves};
 use brief::Brief;
@@ -40,14 +40,12 @@ pub fn next_event(
     let Decoded::At(x) = mouse::decode(s, row, column) else {
         return Played {
             answer: 30,
-            opened: 0,
             position: p,
         };
     };
     if faults::is_full(p) {
         return Played {
             answer: 31,
-            opened: 0,
             position: p,
         };
     }
@@ -102,13 +100,12 @@ fn moves(s: Settings, events: &[u8], from: usize, most: u32) -> u32
 // Moves, most of what a recording holds: they change the count of events alone, in every game state.
 fn count_moves(p: Position, n: u32) -> Played
     requires { ⌜ p .events + n ≤ 65535 ⌝ }
-    ensures { λ r. ⌜ r ≡ record { answer = 0; opened = 0; position = withEvents p (p .events + n) } ⌝ }
+    ensures { λ r. ⌜ r ≡ record { answer = 0; position = withEvents p (p .events + n) } ⌝ }
 {
     let k = p.events + n;
     let q = p.with_events(k);
     Played {
         answer: 0,
-        opened: 0,
         position: q,
     }
 }
@@ -125,12 +122,11 @@ pub fn flow(
     requires { ⌜ LawfulAt (now mines) (desk p (now shown) (now bits)) ⌝ }
     requires { ⌜ Blank (p .settings) (now work) ⌝ }
     requires { ⌜ length (now events) % 3 ≡ 0 ⌝ }
-    ensures { λ r. ⌜ Leaves (play r (now (shown .exit)) (now (bits .exit))) (flowOn (now (mines .entry)) (now (events .entry)) (desk p (now (shown .entry)) (now (bits .entry)))) (now (work .entry)) (now (work .exit)) ⌝ }
+    ensures { λ r. ⌜ Plays (flowOn (now (mines .entry)) (now (events .entry))) p (now (shown .entry)) (now (bits .entry)) (now (work .entry)) r (now (shown .exit)) (now (bits .exit)) (now (work .exit)) ⌝ }
 {
     let mut at = 0;
     let mut o = Played {
         answer: 0,
-        opened: 0,
         position: p,
     };
     while at < events.len() {

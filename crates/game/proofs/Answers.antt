@@ -16,7 +16,7 @@ use Rattle.rules.specs.declared.GameState.the-variants.{Ready, Playing, Win, Lo
 use Rattle.rules.specs.Words.{pick, unless}
 use Rattle.rules.specs.Opening.{Opened, closedAt}
 use Rattle.rules.specs.States.{withDce}
-use Rattle.rules.specs.Clicks.{Desk, Play, done, on, rowsOf, columnsOf, chordIsUseful, isWon, ended, leftOpens, leftClick, takeBack, chordOpens, performChord}
+use Rattle.rules.specs.Clicks.{Desk, Play, done, on, rowsOf, columnsOf, chordIsUseful, uncovered, ended, leftOpens, leftClick, takeBack, chordOpens, performChord}
 use Rattle.rules.specs.Passes.{addDouble, rightClick, chordingClick}
 use Rattle.rules.specs.Step.{mouse, onCell, seenAt, errsPlaying, errsPreFlaging, isUnknown, badPreFlag, leftAt, rightAt, chordAt, chordFrom, playLc, playLr, playRc, playRr, playing, preFlag, readyLc, readyRc, ready, preLeft, preLr, clearedIf, preCell, preRight, preRc, preFlaging, byGame, eventRefusal, playAt}
 use Rattle.cells.proofs.Words.{pick-both}
@@ -30,9 +30,9 @@ either : (b : Bool) (x y : Play) → Small x → Small y → Small (pick b x y)
 either b x y hx hy = pick-both Small b x y (λ _. hx) (λ _. hy)
 
 module _ (B : List ℤ) where
-  ended-small : (n : ℕ) (d : Desk) (o : Opened) → n ≤ 4 → Small (ended B n d o)
+  ended-small : (n : ℕ) (d : Desk) (o : Opened) → n ≤ 4 → Small (ended n d o)
   unfolding ended
-  ended-small n d o h = either (o .hit) _ _ (record { small = omega arith }) (either (isWon B (o .shown)) _ _ (record { small = h }) (record { small = h }))
+  ended-small n d o h = either (o .hit) _ _ (record { small = omega arith }) (either (eqb (uncovered d (o .shown) .position .counts .unopened) 0) _ _ (record { small = h }) (record { small = h }))
 
   left-small : (i : ℕ) (d : Desk) → Small (leftClick B i d)
   unfolding leftClick leftOpens

@@ -29,7 +29,7 @@ use Rattle.keep.proofs.Room.{preflags-has}
 use Rattle.keep.proofs.Able.{eleven-in, lawful-room}
 use Rattle.keep.proofs.Moves.{middle-keeps}
 use Rattle.keep.proofs.Step.{event-inside}
-use Rattle.cells.specs.Contracts.{AbleAt, Plays}
+use Rattle.cells.specs.Contracts.{AbleAt}
 use Rattle.game.specs.Core.{Blank, playEvent}
 
 -- ---- what playing an event asks ---------------------------------------------------------------------------------------------------------
@@ -71,11 +71,10 @@ lawful-asked B p shown bits work l b =
     }
 
 -- an event played by the game state, and counted
-pub event-counts : (B : List ℤ) (p : Position) (e : Event) (o r : Played) (shown bits work shown′ bits′ work′ : List ℕ)
-    → Plays (byGame (p .game) B e) p shown bits work o shown′ bits′ work′ → r ≡ record { answer = o .answer; opened = o .opened; position = withEvents (o .position) (p .events + 1) }
-    → Plays (playEvent B e) p shown bits work r shown′ bits′ work′
-event-counts B p e o r shown bits work shown′ bits′ work′ k h =
-    rw h (record { outcome = ap (counts (desk p shown bits)) (k .outcome); same = k .same; opened = k .opened })
+pub event-counts : (B : List ℤ) (p : Position) (e : Event) (o r : Played) (shown bits shown′ bits′ : List ℕ)
+    → done (o .answer) (desk (o .position) shown′ bits′) ≡ byGame (p .game) B e (desk p shown bits) → r ≡ record { answer = o .answer; position = withEvents (o .position) (p .events + 1) }
+    → done (r .answer) (desk (r .position) shown′ bits′) ≡ playEvent B e (desk p shown bits)
+event-counts B p e o r shown bits shown′ bits′ k h = rw h (ap (counts (desk p shown bits)) k)
 
 -- ---- an event whose pointer is good, resolved -------------------------------------------------------------------------------------------
 

@@ -47,13 +47,12 @@ fn by_game(
 
 // What was played is counted as the n-th event.
 pub fn counted(o: Played, n: u32) -> Played
-    ensures { λ r. ⌜ r ≡ record { answer = o .answer; opened = o .opened; position = withEvents (o .position) n } ⌝ }
+    ensures { λ r. ⌜ r ≡ record { answer = o .answer; position = withEvents (o .position) n } ⌝ }
 {
     let p = o.position;
     let q = p.with_events(n);
     Played {
         answer: o.answer,
-        opened: o.opened,
         position: q,
     }
 }
@@ -99,7 +98,6 @@ pub fn step_at(
     if n != 0 {
         return Played {
             answer: n,
-            opened: 0,
             position: p,
         };
     }

@@ -46,7 +46,7 @@ module _ (s : List ℕ) (b : Book) (e : b ≡ bookOf s) (z : b .number ≡ 0) {p
     (g : Begun s b work₀ p B shown bits work) where
   pub game-lawful : LawfulAt B (desk p shown bits)
   game-lawful =
-      subst (λ (x : Desk). LawfulAt B x) (sym (g .fresh)) (subst (λ (x : List ℤ). LawfulAt x (bookDesk b)) (sym (g .board)) (book-lawful s b e z))
+      subst (λ (x : Desk). LawfulAt B x) (sym (g .fresh)) (subst (λ (x : List ℤ). LawfulAt x (bookDesk s b)) (sym (g .board)) (book-lawful s b e z))
 
   settings-are : p .settings ≡ b .settings
   settings-are = ap (λ (d : Desk). d .position .settings) (g .fresh)

@@ -39,7 +39,7 @@ lines-done B events k n d e = ap (λ (l : List ℕ). eventLines n (plays B l d))
 
 -- the play before the first event
 abbrev pub unplayed : Position → Played
-unplayed p = record { answer = 0; opened = 0; position = p }
+unplayed p = record { answer = 0; position = p }
 
 -- the loop, from place k₀ of the events and place at of the text
 pub record Telling (B : List ℤ) (events : List ℕ) (at : ℕ) (k₀ : ℕ) (o₀ : Played) (shown₀ bits₀ work₀ out₀ : List ℕ) (k number place : ℕ) (o : Played) (shown bits work out : List ℕ) : Type 0 where

@@ -40,7 +40,6 @@ fn play_events(
     let mut place = at;
     let mut o = Played {
         answer: 0,
-        opened: 0,
         position: p,
     };
     while k < events.len() {

@@ -9,7 +9,6 @@ use lib.Dec.{eqb}
 use lib.ListN.{length, getD, length-set}
 use lib.IntN.{ℤ}
 use Rattle.rules.specs.declared.Settings.{Settings}
-use Rattle.rules.specs.declared.Counts.{Counts}
 use Rattle.rules.specs.declared.Position.{Position}
 use Rattle.rules.specs.declared.Played.{Played}
 use Rattle.rules.specs.Words.{pick}
@@ -19,17 +18,13 @@ use Rattle.rules.specs.Clicks.{Desk, Play, desk, done, rowsOf, columnsOf, cells
 use Rattle.rules.specs.Passes.{passesAfterFlag, passesAfterChord, rightClick, addDouble, addDce, thenPasses, chordingClick}
 use Rattle.cells.specs.Ground.{Valued}
 use Rattle.opening.proofs.Cost.{closed-set}
-use Rattle.opening.proofs.Ticking.{ticked-flag, ticked-back, ticked-then, ticked-sum, ticked-most}
-use Rattle.cells.specs.Contracts.{Ticked, LaidAt, PassRoomAt, Prepared, AbleAt, play, Plays, Acts}
-use Rattle.cells.proofs.Words.{pick-both}
+use Rattle.cells.specs.Contracts.{LaidAt, PassRoomAt, Prepared, AbleAt, Leaves, Acts}
 use Rattle.chords.specs.Fell.{Fell, idle, fell}
 use Rattle.clicks.proofs.Ends.{ending}
 use Rattle.chords.proofs.Steps.{chord-idle, chord-runs}
 use Rattle.chords.proofs.Chord.{chord-fell}
 use Rattle.hands.specs.Hand.{counted}
 use Rattle.flagging.proofs.Flagging.{mark-length}
-use Rattle.passes.specs.declared.Ran.{Ran}
-use Rattle.passes.specs.Passing.{Runs}
 use Rattle.passes.proofs.Turns.{Like, like-prepared}
 
 pub able-prepared : (B : List ℤ) (p : Position) (shown bits w : List ℕ) → AbleAt B p shown bits w → Prepared B (desk p shown bits) w
@@ -62,43 +57,28 @@ module _ (B : List ℤ) (i : ℕ) (p : Position) (shown bits w : List ℕ) (a : 
       like-prepared B (desk p shown bits) d w w (able-prepared B p shown bits w a)
       (subst⁻¹ (λ (x : Desk). Like (p .settings) (length bits) x) h (flagged-like e)) refl
 
-  -- the flag opens nothing; what the passes opened is counted
-  pub right-flags : getD shown i 0 ≡ 10 → (q : Position) (shown₁ bits₁ : List ℕ) → desk q shown₁ bits₁ ≡ flagged B i (addRight (desk p shown bits))
-      → (r : Ran) (shown′ bits′ w′ : List ℕ) → Runs (passesAfterFlag B) q shown₁ bits₁ w r shown′ bits′ w′
-      → Plays (rightClick B i) p shown bits w (record { answer = 1; opened = r .opened; position = r .position }) shown′ bits′ w′
+  pub right-flags : getD shown i 0 ≡ 10 → (d : Desk) → d ≡ flagged B i (addRight (desk p shown bits)) → (d′ : Desk) (w′ : List ℕ) → Leaves d′ (passesAfterFlag B d) w w′
+      → Leaves (done 1 d′) (rightClick B i (desk p shown bits)) w w′
   unfolding rightClick
-  right-flags e q shown₁ bits₁ h r shown′ bits′ w′ l =
-      record {
-        outcome = rw (eq-eqb _ _ e) (ap (done 1) (l .outcome ∙ ap (passesAfterFlag B) h));
-        same = l .same;
-        opened = ticked-then (subst⁻¹ (λ (x : Desk). Ticked 0 shown 0 (x .shown)) h (ticked-flag 0 shown i (eq-eqb _ _ e))) (l .opened);
-      }
+  right-flags e d h d′ w′ l =
+      record { outcome = rw (eq-eqb _ _ e) (ap (done 1) (l .outcome ∙ ap (passesAfterFlag B) h)); same = l .same }
 
-  -- neither does taking back
-  pub right-takes : (getD shown i 0 ≡ 10 → ⊥) → (o : Played) (shown′ : List ℕ) → ((b : List ℕ) → play o shown′ b ≡ takeBack i (addRight (desk p shown b))) × (o .opened ≡ 0)
-      → Plays (rightClick B i) p shown bits w o shown′ bits w
+  pub right-takes : (getD shown i 0 ≡ 10 → ⊥) → (o : Play) → o ≡ takeBack i (addRight (desk p shown bits)) → Leaves o (rightClick B i (desk p shown bits)) w w
   unfolding rightClick
-  right-takes n o shown′ h =
-      record {
-        outcome = rw (ne-eqb _ _ n) (h .0 bits);
-        same = refl;
-        opened =
-            rw (h .1)
-            (subst⁻¹ (λ (x : Play). Ticked 0 shown 0 (x .desk .shown)) (h .0 bits) (ticked-back 0 i (addRight (desk p shown bits))));
-      }
+  right-takes n o h = record { outcome = rw (ne-eqb _ _ n) h; same = refl }
 
 -- ---- chord -----------------------------------------------------------------------------------------------------------------------------
 
--- a chord leaves every count but solved_chord
-performed-counts : (B : List ℤ) (i : ℕ) (d : Desk) → performChord B i d .desk .position .counts ≡ d .position .counts
+-- a chord leaves dce
+performed-dce : (B : List ℤ) (i : ℕ) (d : Desk) → performChord B i d .desk .position .counts .dce ≡ d .position .counts .dce
 unfolding chordOpens
-performed-counts B i d = go (chordIsUseful (rowsOf d) (columnsOf d) (d .shown) i) refl
+performed-dce B i d = go (chordIsUseful (rowsOf d) (columnsOf d) (d .shown) i) refl
   where
-    go : (b : Bool) → chordIsUseful (rowsOf d) (columnsOf d) (d .shown) i ≡ b → performChord B i d .desk .position .counts ≡ d .position .counts
+    go : (b : Bool) → chordIsUseful (rowsOf d) (columnsOf d) (d .shown) i ≡ b → performChord B i d .desk .position .counts .dce ≡ d .position .counts .dce
     go true e =
-        ap (λ (o : Play). o .desk .position .counts) (chord-runs B i d e)
-        ∙ ending B 3 (chordCounts B (closedAround (rowsOf d) (columnsOf d) (d .shown) i) d) (refreshed B (rowsOf d) (columnsOf d) (closedAround (rowsOf d) (columnsOf d) (d .shown) i) (d .shown)) .counts
-    go false e = ap (λ (o : Play). o .desk .position .counts) (chord-idle B i d e)
+        ap (λ (o : Play). o .desk .position .counts .dce) (chord-runs B i d e)
+        ∙ ending 3 (chordCounts B (closedAround (rowsOf d) (columnsOf d) (d .shown) i) d) (refreshed B (rowsOf d) (columnsOf d) (closedAround (rowsOf d) (columnsOf d) (d .shown) i) (d .shown)) .dce
+    go false e = ap (λ (o : Play). o .desk .position .counts .dce) (chord-idle B i d e)
 
 performed-like : (B : List ℤ) → Valued B → (i : ℕ) (st : Settings) (n : ℕ) (d : Desk) → length (d .shown) ≡ cellsOf d → Like st n d → Like st n (performChord B i d .desk)
 performed-like B v i st n d long l = go (chord-fell B v i d long)
@@ -124,14 +104,11 @@ counted-is : (o : Played) (shown bits : List ℕ) → done (counted o .answer) (
 counted-is o shown bits = go (eqb (o .answer) 0)
   where
     go : (b : Bool) →
-        done (pick {A = Played} b o (record { answer = o .answer; opened = o .opened; position = withDceOne (o .position) }) .answer)
-        (desk (pick {A = Played} b o (record { answer = o .answer; opened = o .opened; position = withDceOne (o .position) }) .position) shown bits)
+        done (pick {A = Played} b o (record { answer = o .answer; position = withDceOne (o .position) }) .answer)
+        (desk (pick {A = Played} b o (record { answer = o .answer; position = withDceOne (o .position) }) .position) shown bits)
         ≡ pick b (done (o .answer) (desk (o .position) shown bits)) (done (o .answer) (desk (withDceOne (o .position)) shown bits))
     go true = refl
     go false = refl
-
-counted-opened : (o : Played) → counted o .opened ≡ o .opened
-counted-opened o = pick-both (λ (x : Played). x .opened ≡ o .opened) (eqb (o .answer) 0) _ _ (λ _. refl) (λ _. refl)
 
 module _ (B : List ℤ) (i : ℕ) (p : Position) (shown bits w : List ℕ) (a : AbleAt B p shown bits w) (q : Position) (qe : q ≡ withDouble p (p .counts .double + 1)) where
   told : desk q shown bits ≡ addDouble (desk p shown bits)
@@ -149,8 +126,8 @@ module _ (B : List ℤ) (i : ℕ) (p : Position) (shown bits w : List ℕ) (a : 
   module _ (o : Played) (shown′ w′ : List ℕ) (c : Acts (performChord B i) q shown w o shown′ w′) where
     pub chord-dce : o .position .counts .dce ≤ 70000
     chord-dce =
-        let e : o .position .counts ≡ q .counts = ap (λ (x : Play). x .desk .position .counts) (c bits .outcome) ∙ performed-counts B i (desk q shown bits) in
-        let f : o .position .counts .dce ≡ p .counts .dce = ap (λ (k : Counts). k .dce) e ∙ ap (λ (x : Position). x .counts .dce) qe in
+        let e : o .position .counts .dce ≡ q .counts .dce = ap (λ (x : Play). x .desk .position .counts .dce) (c bits .outcome) ∙ performed-dce B i (desk q shown bits) in
+        let f : o .position .counts .dce ≡ p .counts .dce = e ∙ ap (λ (x : Position). x .counts .dce) qe in
         omega (arith, a .room .dce)
 
     module _ (t : Played) (te : t ≡ counted o) where
@@ -168,21 +145,8 @@ module _ (B : List ℤ) (i : ℕ) (p : Position) (shown bits w : List ℕ) (a : 
           like-prepared B (desk p shown bits) (desk (t .position) shown′ bits) w w′ (able-prepared B p shown bits w a)
           (subst⁻¹ (λ (x : Play). Like (p .settings) (length bits) (x .desk)) (counted-outcome ∙ ap (λ (x : Desk). addDce (performChord B i x)) (sym told)) l) (c bits .same)
 
-      module _ (r : Ran) (shown″ bits″ w″ : List ℕ) (l : Runs (passesAfterChord B) (t .position) shown′ bits w′ r shown″ bits″ w″) where
-        -- what the chord opened, and the passes after it
-        chord-ticked : Ticked 0 shown (t .opened + r .opened) shown″
-        chord-ticked =
-            ticked-sum
-            (subst⁻¹ (λ (n : ℕ). Ticked 0 shown n shown′) (ap (λ (x : Played). x .opened) te ∙ counted-opened o) (c bits .opened)) (l .opened)
-
-        pub chord-room : t .opened + r .opened ≤ length shown″
-        chord-room = ticked-most chord-ticked
-
-        pub chord-done : Plays (chordingClick B i) p shown bits w (record { answer = t .answer; opened = t .opened + r .opened; position = r .position }) shown″ bits″ w″
-        unfolding chordingClick
-        chord-done =
-            record {
-              outcome = ap (done (t .answer)) (l .outcome) ∙ ap (thenPasses B) counted-outcome;
-              same = l .same ∙ c bits .same;
-              opened = chord-ticked;
-            }
+      pub chord-done : (d′ : Desk) (w″ : List ℕ) → Leaves d′ (passesAfterChord B (desk (t .position) shown′ bits)) w′ w″
+          → Leaves (done (t .answer) d′) (chordingClick B i (desk p shown bits)) w w″
+      unfolding chordingClick
+      chord-done d′ w″ l =
+          record { outcome = ap (done (t .answer)) (l .outcome) ∙ ap (thenPasses B) counted-outcome; same = l .same ∙ c bits .same }

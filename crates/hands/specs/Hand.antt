@@ -8,4 +8,4 @@ use Rattle.rules.specs.States.{withDce}
 
 -- a chord by hand that opened adds to dce
 abbrev pub counted : Played → Played
-counted o = pick (eqb (o .answer) 0) o (record { answer = o .answer; opened = o .opened; position = withDce (o .position) (o .position .counts .dce + 1) })
+counted o = pick (eqb (o .answer) 0) o (record { answer = o .answer; position = withDce (o .position) (o .position .counts .dce + 1) })

@@ -23,11 +23,9 @@ pub fn right_click(
 {
     if shown[cell] == 10 {
         let f = marking::flag(p, mines, shown, bits, cell);
-        let r = passes::passes_after_flag(f, mines, shown, bits, work);
-        let position = r.position;
+        let position = passes::passes_after_flag(f, mines, shown, bits, work);
         return Played {
             answer: 1,
-            opened: r.opened,
             position,
         };
     }
@@ -47,7 +45,6 @@ fn add_dce(o: Played) -> Played
     let position = p.with_dce(n);
     Played {
         answer: o.answer,
-        opened: o.opened,
         position,
     }
 }
@@ -69,12 +66,9 @@ pub fn chording_click(
     let q = p.with_double(n);
     let o = chords::perform_chord(q, mines, shown, work, cell);
     let c = add_dce(o);
-    let r = passes::passes_after_chord(c.position, mines, shown, bits, work);
-    let position = r.position;
-    let opened = c.opened + r.opened;
+    let position = passes::passes_after_chord(c.position, mines, shown, bits, work);
     Played {
         answer: c.answer,
-        opened,
         position,
     }
 }

@@ -12,8 +12,8 @@ use lib.IntN.{ℤ}
 use Rattle.rules.specs.Words.{bit, count}
 use Rattle.rules.specs.Grid.{cellsIf}
 use Rattle.rules.specs.Board.{faceAt, loneAt}
+use Rattle.rules.specs.Opening.{countShown, isOpen}
 use Rattle.rules.specs.Judging.{openingsJudged, lones, bvOf, total3bv, notOpenAt, leftToSolve}
-use Rattle.rules.specs.Lawful.{countShown, isOpen}
 use Rattle.cells.specs.Contracts.{Leaves}
 use Rattle.cells.proofs.Words.{and-left, and-right, and-both, count-mono, count-none, count-zero}
 use Rattle.lones.proofs.Lones.{lone-mine, lones-if, not-open-off, not-open-on}

@@ -1,26 +1,28 @@
 -- No call, accepted or refused, leads from a position that the position check accepts to one that it does not; and setup leads to one that it accepts.
 -- No call changes the settings, so none the league's rules.
-use mathlib.Core.Path.{_≡_, refl, ap}
-use mathlib.Core.Bool.{Bool, true, false}
+use mathlib.Core.Path.{_≡_, _∙_, sym, refl, ap}
+use mathlib.Core.Bool.{Bool, true, false, true≢false}
 use mathlib.Core.List.{List}
 use Prim.Native.Nat.{ℕ}
-use borrow.Author.Tests.{eqb-true}
+use borrow.Author.Tests.{eqb-true, eq-eqb}
 use lib.Dec.{eqb, leb, ltb}
 use lib.IntN.{ℤ}
 use lib.ListN.{getD}
 use Rattle.rules.specs.declared.Settings.{Settings}
+use Rattle.rules.specs.declared.Position.{Position}
 use Rattle.rules.specs.declared.Answer.{Answer}
 use Rattle.rules.specs.declared.Decoded.{Decoded}
 use Rattle.rules.specs.declared.Decoded.the-variants.{At, Bad}
 use Rattle.rules.specs.declared.GameState.the-variants.{Loss}
 use Rattle.rules.specs.Words.{pick, unless}
-use Rattle.rules.specs.States.{mouseNumber, isLoss, withGame, withMiddle}
+use Rattle.rules.specs.States.{mouseNumber, isLoss, withGame, withMiddle, freshOf}
 use Rattle.rules.specs.Board.{faceAt}
 use Rattle.rules.specs.Clicks.{Desk, Play, desk, done, on}
 use Rattle.rules.specs.Mouse.{rulesOk, resolved, flipped}
 use Rattle.rules.specs.Step.{pointerOf, plainCode, plainOn}
-use Rattle.rules.specs.Lawful.{cellLawful}
-use Rattle.rules.specs.Calls.{leftBy, setBy, Outcome, SetUp, boardsFit, freshDesk, setupBy, setupRefusal, resetOf, answers, refuses, setUp, positionCheck, lentRefusal, resolveBy, resolveOf, refused, refusedAt, accepted, openedIn, played, tested, stepOf, plays, lastPlay, flowed, flowRefusal, flowOf, gameStateOf}
+use Rattle.rules.specs.Lawful.{cellLawful, unopenedIn}
+use Rattle.rules.specs.Calls.{leftBy, setBy, Outcome, SetUp, boardsFit, freshDesk, setupBy, setupRefusal, resetOf, answers, refuses, setUp, positionCheck, lentRefusal, resolveBy, resolveOf, refused, refusedAt, accepted, played, tested, stepOf, plays, lastPlay, flowed, flowRefusal, flowOf, gameStateOf, setupOf}
+use Rattle.rules.specs.Opening.{openedIn}
 use Rattle.cells.proofs.Words.{pick-both, unless-passed}
 use Rattle.keep.specs.Kept.{LawfulAt, Follows}
 use Rattle.keep.proofs.Lawful.{settings-accepted, accepted-ground, check-lawful, lent-lawful, flow-lawful, settings-check, check-passes}
@@ -30,7 +32,7 @@ use Rattle.keep.proofs.Moves.{middle-keeps}
 use Rattle.keep.proofs.Step.{step-follows, step-check, plays-follow}
 
 -- the fresh desk of settings that setup did not refuse
-pub setup-lawful : (s : Settings) (B : List ℤ) (shown bits : List ℕ) → setupRefusal s B shown bits ≡ 0 → LawfulAt B (freshDesk s)
+pub setup-lawful : (s : Settings) (B : List ℤ) (shown bits : List ℕ) → setupRefusal s B shown bits ≡ 0 → LawfulAt B (freshDesk s B)
 unfolding setupRefusal
 setup-lawful s B shown bits e =
     let a = settings-accepted s (boardsFit s B shown bits) B (unless 45 (rulesOk (s .rules)) 0) e in
@@ -49,6 +51,7 @@ lost-lawful B d l =
           double = h .double;
           solved = h .solved;
           flag = h .flag;
+          unopened = h .unopened;
           wrong = h .wrong;
           cells = λ i lt. lost-cell (isLoss (d .position .game)) (faceAt B i) (getD (d .shown) i 0) (h .cells i lt);
           mines = h .mines;
@@ -70,14 +73,14 @@ abbrev Accepts : List ℤ → Desk → Type 0
 Accepts B d = positionCheck B d ≡ 0
 
 -- setup
-pub setup-keeps : (s : Settings) (B : List ℤ) (shown bits : List ℕ) → setupRefusal s B shown bits ≡ 0 → Accepts B (freshDesk s)
+pub setup-keeps : (s : Settings) (B : List ℤ) (shown bits : List ℕ) → setupRefusal s B shown bits ≡ 0 → Accepts B (freshDesk s B)
 unfolding setupRefusal
 setup-keeps s B shown bits e =
     let rest = unless 45 (rulesOk (s .rules)) 0 in
     let ruled = unless-passed 44 (rulesOk (s .rules)) 0 (settings-accepted s (boardsFit s B shown bits) B rest e .2) .0 in
-    settings-check s (boardsFit s B shown bits) B rest (freshDesk s) e ruled refl (setup-lawful s B shown bits e)
+    settings-check s (boardsFit s B shown bits) B rest (freshDesk s B) e ruled refl (setup-lawful s B shown bits e)
 
-setup-by : (B : List ℤ) (d : Desk) (n : ℕ) → (n ≡ 0 → Accepts B (freshDesk (d .position .settings))) → Accepts B d
+setup-by : (B : List ℤ) (d : Desk) (n : ℕ) → (n ≡ 0 → Accepts B (freshDesk (d .position .settings) B)) → Accepts B d
     → Accepts B (setBy (setupBy n B (d .position) (d .position .settings) (d .shown) (d .bits)))
 unfolding setupBy
 setup-by B d n h e =
@@ -86,7 +89,7 @@ setup-by B d n h e =
     (λ z. h (eqb-true n 0 z)) (λ _. e)
   where
     f : Desk
-    f = freshDesk (d .position .settings)
+    f = freshDesk (d .position .settings) B
 
 -- reset
 pub reset-keeps : (B : List ℤ) (d : Desk) → Accepts B d → Accepts B (setBy (resetOf B d))
@@ -144,6 +147,45 @@ game-state-keeps B event d e =
     (λ _. check-passes B d (on d (withGame (d .position) Loss)) e refl (lost-lawful B d (check-lawful B d e))) (λ _. e))
     (λ _. e)
 
+-- ---- the safe cells still closed -------------------------------------------------------------------------------------------------------
+
+abbrev Right : List ℤ → Desk → Type 0
+Right B d = d .position .counts .unopened ≡ unopenedIn B (d .shown)
+
+-- every accepted call leaves their number right, and setup and reset make it so, whatever was given to them
+pub record UnopenedRight (B : List ℤ) : Type 0 where
+  pub check : (d : Desk) → Accepts B d → Right B d
+  pub setup : (s : Settings) (shown bits : List ℕ) → setupRefusal s B shown bits ≡ 0 → Right B (setBy (setupOf s B shown bits))
+  pub reset : (d : Desk) → setupRefusal (d .position .settings) B (d .shown) (d .bits) ≡ 0 → Right B (setBy (resetOf B d))
+  pub resolve : (code r c : ℕ) (d : Desk) → Accepts B d → Right B (on d (resolveOf B code r c d .position))
+  pub step : (code r c : ℕ) (d : Desk) (work : List ℕ) → Accepts B d → Right B (leftBy (stepOf B code r c d work))
+  pub flow : (events : List ℕ) (d : Desk) (work : List ℕ) → Accepts B d → Right B (leftBy (flowOf B events d work))
+  pub state : (event : ℕ) (d : Desk) → Accepts B d → Right B (on d (gameStateOf B event d .position))
+
+checked-right : (B : List ℤ) (d : Desk) → Accepts B d → Right B d
+checked-right B d e = check-lawful B d e .kept .sound .unopened
+
+set-right : (B : List ℤ) (otherwise : Position) (s : Settings) (shown bits : List ℕ) → setupRefusal s B shown bits ≡ 0
+    → Right B (setBy (setupBy (setupRefusal s B shown bits) B otherwise s shown bits))
+unfolding setupBy
+set-right B otherwise s shown bits e =
+    let f = freshDesk s B in
+    let n = setupRefusal s B shown bits in
+    pick-both (λ (o : SetUp). Right B (setBy o)) (eqb n 0) (setUp (answers 0 (f .position) 0) (f .shown) (f .bits)) (setUp (refuses B otherwise n) shown bits)
+    (λ _. setup-lawful s B shown bits e .kept .sound .unopened) (λ w. absurd (true≢false (sym (eq-eqb _ _ e) ∙ w)))
+
+pub unopened-right : (B : List ℤ) → UnopenedRight B
+unfolding setupOf resetOf
+unopened-right B = record {
+  check = checked-right B;
+  setup = λ s shown bits e. set-right B (freshOf s 0) s shown bits e;
+  reset = λ d e. set-right B (d .position) (d .position .settings) (d .shown) (d .bits) e;
+  resolve = λ code r c d e. checked-right B _ (resolve-call-keeps B code r c d e);
+  step = λ code r c d work e. checked-right B _ (step-call-keeps B code r c d work e);
+  flow = λ events d work e. checked-right B _ (flow-call-keeps B events d work e);
+  state = λ event d e. checked-right B _ (game-state-keeps B event d e);
+}
+
 -- ---- the rules -------------------------------------------------------------------------------------------------------------------------
 
 -- an answer with the position's own settings
@@ -157,7 +199,7 @@ settled-rules d a e = ap (λ (s : Settings). s .rules) e
 reset-settled : (B : List ℤ) (d : Desk) → Settled d (resetOf B d .answer)
 unfolding resetOf setupBy
 reset-settled B d =
-    let f = freshDesk (d .position .settings) in
+    let f = freshDesk (d .position .settings) B in
     let n = setupRefusal (d .position .settings) B (d .shown) (d .bits) in
     pick-both (λ (o : SetUp). Settled d (o .answer)) (eqb n 0) (setUp (answers 0 (f .position) 0) (f .shown) (f .bits)) (setUp (refuses B (d .position) n) (d .shown) (d .bits))
     (λ _. refl) (λ _. refl)

@@ -15,9 +15,8 @@ use Rattle.rules.specs.declared.GameState.the-variants.{Playing, Win, Loss}
 use Rattle.rules.specs.Words.{pick, count}
 use Rattle.rules.specs.States.{withGame}
 use Rattle.rules.specs.Grid.{neighbour, around}
-use Rattle.rules.specs.Opening.{closedAt, Opened, refreshed}
-use Rattle.rules.specs.Clicks.{Desk, desk, done, showing, rowsOf, columnsOf, flagAt, chordIsUseful, closedAround, chordCounts, chordOpens, performChord, ended, isWon}
-use Rattle.rules.specs.Lawful.{countShown, isOpen}
+use Rattle.rules.specs.Opening.{closedAt, Opened, refreshed, countShown, isOpen}
+use Rattle.rules.specs.Clicks.{Desk, done, on, uncovered, rowsOf, columnsOf, flagAt, chordIsUseful, closedAround, chordCounts, chordOpens, performChord, ended}
 use Rattle.cells.specs.Ground.{Valued}
 use Rattle.cells.proofs.Words.{and-left, and-right, and-both, count-mono}
 use Rattle.judging.specs.Joining.{among, safeAt}
@@ -84,22 +83,23 @@ module _ (B : List ℤ) (R C i : ℕ) (shown : List ℕ) (v : Valued B) (long : 
 
 -- ---- the chord -------------------------------------------------------------------------------------------------------------------------
 
--- what a chord leaves of desk d: the counts, but for the solved ones, are as they were
+-- what a chord leaves of desk d
 pub record ChordDone (n : ℕ) (B : List ℤ) (s : Settings) (d e : Desk) : Type 0 where
   pub live : Live n B s e
-  pub counts : e .position .counts ≡ d .position .counts
+  pub dce : e .position .counts .dce ≡ d .position .counts .dce
   pub mouse : e .position .mouse ≡ d .position .mouse
   pub preflags : e .position .preflags ≡ d .position .preflags
 
-module _ (B : List ℤ) (a : ℕ) (d : Desk) (o : Opened) where
-  ended-by : (Q : Desk → Type 0) → Q (desk (withGame (d .position) Loss) (o .shown) (d .bits)) → Q (desk (withGame (d .position) Win) (o .shown) (d .bits))
-      → Q (showing d (o .shown)) → Q (ended B a d o .desk)
+module _ (a : ℕ) (d : Desk) (o : Opened) where
+  abbrev shows : Desk
+  shows = uncovered d (o .shown)
+
+  ended-by : (Q : Desk → Type 0) → Q (on shows (withGame (shows .position) Loss)) → Q (on shows (withGame (shows .position) Win)) → Q shows → Q (ended a d o .desk)
   unfolding ended
-  ended-by Q x y z = go (o .hit) (isWon B (o .shown))
+  ended-by Q x y z = go (o .hit) (eqb (shows .position .counts .unopened) 0)
     where
       go : (t u : Bool)
-          → Q (pick t (done 4 (desk (withGame (d .position) Loss) (o .shown) (d .bits)))
-          (pick u (done a (desk (withGame (d .position) Win) (o .shown) (d .bits))) (done a (showing d (o .shown)))) .desk)
+          → Q (pick t (done 4 (on shows (withGame (shows .position) Loss))) (pick u (done a (on shows (withGame (shows .position) Win))) (done a shows)) .desk)
       go true u = x
       go false true = y
       go false false = z
@@ -117,16 +117,16 @@ module _ (n : ℕ) (B : List ℤ) (i : ℕ) (s : Settings) (d : Desk) (g : d .po
       record {
         live =
             ended-live 3 (chordCounts B cells d) (refreshed B R C cells (d .shown)) g (l .settings)
-            (opened-sound cells h (omega arith) (omega arith) refl
+            (opened-sound cells h (omega arith) (omega arith) refl refl
             (let a = h .solved in
             let o = chord-opens-more B R C i (d .shown) v (h .ground .board) in
             let j = judged-lones-safe B R C (d .shown) cells in
             omega arith))
             (hit-counted B R C cells (d .shown) v)
             (l .kept .preflags) (l .kept .held);
-        counts = ended-by B 3 (chordCounts B cells d) (refreshed B R C cells (d .shown)) (λ e. e .position .counts ≡ d .position .counts) refl refl refl;
-        mouse = ended-by B 3 (chordCounts B cells d) (refreshed B R C cells (d .shown)) (λ e. e .position .mouse ≡ d .position .mouse) refl refl refl;
-        preflags = ended-by B 3 (chordCounts B cells d) (refreshed B R C cells (d .shown)) (λ e. e .position .preflags ≡ d .position .preflags) refl refl refl;
+        dce = ended-by 3 (chordCounts B cells d) (refreshed B R C cells (d .shown)) (λ e. e .position .counts .dce ≡ d .position .counts .dce) refl refl refl;
+        mouse = ended-by 3 (chordCounts B cells d) (refreshed B R C cells (d .shown)) (λ e. e .position .mouse ≡ d .position .mouse) refl refl refl;
+        preflags = ended-by 3 (chordCounts B cells d) (refreshed B R C cells (d .shown)) (λ e. e .position .preflags ≡ d .position .preflags) refl refl refl;
       }
 
   -- CHORD, while Playing, at the same bound
@@ -136,7 +136,7 @@ module _ (n : ℕ) (B : List ℤ) (i : ℕ) (s : Settings) (d : Desk) (g : d .po
     where
       go : (t : Bool) → ChordDone n B s d (pick t (chordOpens B (closedAround (rowsOf d) (columnsOf d) (d .shown) i) d) (done 0 d) .desk)
       go true = chord-opens
-      go false = record { live = l; counts = refl; mouse = refl; preflags = refl }
+      go false = record { live = l; dce = refl; mouse = refl; preflags = refl }
 
 -- where nothing is open no chord runs
 pub chord-shut : (B : List ℤ) (i : ℕ) (d : Desk) → countShown isOpen (d .shown) ≡ 0 → i < length (d .shown) → performChord B i d ≡ done 0 d

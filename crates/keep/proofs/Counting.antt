@@ -1,19 +1,14 @@
 -- Counts of shown cells: after one cell is shown anew, and of two boards compared cell by cell.
-use mathlib.Core.Path.{_≡_, _∙_, sym, ap, subst, subst⁻¹}
-use mathlib.Core.Bool.{Bool, true, false, _||_}
+use mathlib.Core.Path.{_≡_, _∙_, ap, subst, subst⁻¹}
+use mathlib.Core.Bool.{Bool, true, false}
 use mathlib.Core.List.{List}
 use Prim.Native.Nat.{ℕ, _+_, _<_, _≤_}
 use native.Mathlib.Omega.{arith}
-use native.Mathlib.Decide.{ℕ-discrete}
-use lib.Dec.{ltb}
-use lib.IntN.{ℤ}
 use lib.ListN.{length, getD, set, replicate, length-set, length-replicate, getD-replicate}
 use lib.Seq.{getD-set-same, getD-set-other}
-use Rattle.rules.specs.Words.{bit, count, every}
-use Rattle.rules.specs.Board.{mineAt}
-use Rattle.rules.specs.Clicks.{isWon, doneAt}
-use Rattle.rules.specs.Lawful.{countShown}
-use Rattle.cells.proofs.Words.{count-le, count-same, count-mono, count-none, count-zero, count-some, count-change, every-same}
+use Rattle.rules.specs.Words.{bit, count}
+use Rattle.rules.specs.Opening.{countShown}
+use Rattle.cells.proofs.Words.{count-le, count-same, count-mono, count-none, count-zero, count-some, count-change}
 
 pub shown-le : (f : ℕ → Bool) (l : List ℕ) → countShown f l ≤ length l
 unfolding countShown
@@ -59,18 +54,3 @@ shown-set f l i x v h e =
 pub shown-replicate : (f : ℕ → Bool) (n v : ℕ) → f v ≡ false → countShown f (replicate n v) ≡ 0
 shown-replicate f n v e =
     shown-zero f (replicate n v) (λ i h. ap f (getD-replicate n i v 0 (subst (λ (m : ℕ). i < m) (length-replicate n v) h)) ∙ e)
-
--- the win test reads only whether a cell is open
-pub won-same : (B : List ℤ) (l l′ : List ℕ) → length l′ ≡ length l → ((i : ℕ) → i < length l → ltb (getD l′ i 0) 10 ≡ ltb (getD l i 0) 10) → isWon B l′ ≡ isWon B l
-unfolding isWon
-won-same B l l′ n h =
-    ap (every (doneAt B l′)) n ∙ every-same (doneAt B l′) (doneAt B l) (length l) (λ i lt. ap (λ (t : Bool). mineAt B i || t) (h i lt))
-
-pub won-set : (B : List ℤ) (l : List ℕ) (i x v : ℕ) → i < length l → getD l i 0 ≡ x → ltb v 10 ≡ ltb x 10 → isWon B (set l i v) ≡ isWon B l
-won-set B l i x v lt e w = won-same B l (set l i v) (length-set l i v) (λ j _. go j (ℕ-discrete j i))
-  where
-    go : (j : ℕ) → Dec (j ≡ i) → ltb (getD (set l i v) j 0) 10 ≡ ltb (getD l j 0) 10
-    go j (yes q) =
-        ap (λ (y : ℕ). ltb (getD (set l i v) y 0) 10) q ∙ ap (λ (y : ℕ). ltb y 10) (getD-set-same l i v 0 lt) ∙ w
-        ∙ ap (λ (y : ℕ). ltb y 10) (sym e) ∙ ap (λ (y : ℕ). ltb (getD l y 0) 10) (sym q)
-    go j (no q) = ap (λ (y : ℕ). ltb y 10) (getD-set-other l i j v 0 q)

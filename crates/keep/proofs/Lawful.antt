@@ -18,9 +18,10 @@ use Rattle.rules.specs.States.{isLoss, isNotFlag}
 use Rattle.rules.specs.Grid.{sizeOk}
 use Rattle.rules.specs.Board.{faceAt, mineAt, valuesOk, numbersOk, someSafe, boardRefusal}
 use Rattle.rules.specs.Lent.{bitAt}
-use Rattle.rules.specs.Clicks.{Desk, isWon}
+use Rattle.rules.specs.Opening.{countShown}
+use Rattle.rules.specs.Clicks.{Desk}
 use Rattle.rules.specs.Mouse.{rulesOk}
-use Rattle.rules.specs.Lawful.{countShown, shows, isFlag, isOpenOrHit, cellLawful, shownLawful, bitsLawful, countsLawful, gameLawful, statesLawful, lawful, lawfulRefusal}
+use Rattle.rules.specs.Lawful.{shows, isFlag, isOpenOrHit, cellLawful, shownLawful, bitsLawful, countsLawful, gameLawful, statesLawful, lawful, lawfulRefusal, isWon, unopenedIn}
 use Rattle.rules.specs.Calls.{cellsIn, boardsFit, modeOk, settingsRefusal, positionRefusal, positionCheck, lentRefusal, flowRefusal, workFits}
 use Rattle.cells.proofs.Words.{and-left, and-right, and-both, every-at, every-all, unless-passed}
 use Rattle.cells.proofs.Face.{values-valued}
@@ -142,9 +143,10 @@ lawful-kept B d g e =
     let s = and-left (shownLawful B d) _ e in
     let bs = and-left (bitsLawful B d) _ rest in
     let rest₂ = and-right (bitsLawful B d) _ rest in
-    let t = and-right (countsLawful d) (statesLawful B d) rest₂ in
-    let c₀ = and-left (countsLawful d) (statesLawful B d) rest₂ in
-    let c₁ = and-right (eqb (d .position .counts .flag) (countShown isFlag (d .shown))) _ c₀ in
+    let t = and-right (countsLawful B d) (statesLawful B d) rest₂ in
+    let c₀ = and-left (countsLawful B d) (statesLawful B d) rest₂ in
+    let u₁ = and-right (eqb (d .position .counts .flag) (countShown isFlag (d .shown))) _ c₀ in
+    let c₁ = and-right (eqb (d .position .counts .unopened) (unopenedIn B (d .shown))) _ u₁ in
     let c₂ = and-right (leb (d .position .counts .left) n) _ c₁ in
     let c₃ = and-right (leb (d .position .counts .right) n) _ c₂ in
     let c₄ = and-right (leb (d .position .counts .lce) n) _ c₃ in
@@ -166,6 +168,7 @@ lawful-kept B d g e =
           double = leb-true _ _ (and-left (leb (d .position .counts .double) (n + countShown isOpenOrHit (d .shown))) _ c₈);
           solved = leb-true _ _ (and-right (leb (d .position .counts .double) (n + countShown isOpenOrHit (d .shown))) _ c₈);
           flag = eqb-true _ _ (and-left (eqb (d .position .counts .flag) (countShown isFlag (d .shown))) _ c₀);
+          unopened = eqb-true _ _ (and-left (eqb (d .position .counts .unopened) (unopenedIn B (d .shown))) _ u₁);
           wrong = wrong-by _ _ (and-right (every (λ i. cellLawful (d .position .settings .question) (isLoss (d .position .game)) (faceAt B i) (getD (d .shown) i 0)) (length (d .shown))) _ s);
           cells =
               every-at (λ i. cellLawful (d .position .settings .question) (isLoss (d .position .game)) (faceAt B i) (getD (d .shown) i 0)) (length (d .shown))
@@ -185,7 +188,7 @@ pub lawful-rules : (B : List ℤ) (d : Desk) → lawful B d ≡ true → rulesOk
 unfolding lawful statesLawful
 lawful-rules B d e =
     let counts = and-right (bitsLawful B d) _ (and-right (shownLawful B d) _ e) in
-    let states = and-right (gameLawful (d .position .game) B d) _ (and-right (countsLawful d) _ counts) in
+    let states = and-right (gameLawful (d .position .game) B d) _ (and-right (countsLawful B d) _ counts) in
     and-right (not (isNotFlag (d .position .mouse)) || leb 1 (d .position .counts .right)) _ states
 
 pub kept-lawful : (B : List ℤ) (d : Desk) → LawfulAt B d → rulesOk (d .position .settings .rules) ≡ true → lawful B d ≡ true
@@ -200,9 +203,9 @@ kept-lawful B d h ruled =
     (and-both _ _
     (every-all (λ m. not (bitAt (d .bits) m) || mineAt B m) (8 * length (d .bits)) (λ m _. mine-bit (bitAt (d .bits) m) (mineAt B m) (s .mines m)))
     (and-both _ _
-    (and-both _ _ (eq-eqb _ _ (s .flag)) (and-both _ _ (le-leb _ _ (b .left)) (and-both _ _ (le-leb _ _ (b .right)) (and-both _ _ (le-leb _ _ (b .lce))
+    (and-both _ _ (eq-eqb _ _ (s .flag)) (and-both _ _ (eq-eqb _ _ (s .unopened)) (and-both _ _ (le-leb _ _ (b .left)) (and-both _ _ (le-leb _ _ (b .right)) (and-both _ _ (le-leb _ _ (b .lce))
     (and-both _ _ (le-leb _ _ (b .rce)) (and-both _ _ (le-leb _ _ (b .dce)) (and-both _ _ (le-leb _ _ (h .kept .preflags)) (and-both _ _ (le-leb _ _ (h .few))
-    (and-both _ _ (le-leb _ _ (s .double)) (le-leb _ _ (s .solved)))))))))))
+    (and-both _ _ (le-leb _ _ (s .double)) (le-leb _ _ (s .solved))))))))))))
     (and-both _ _ (phase-game (d .position .game) B d (h .kept .phase))
     (and-both _ _ (mine-bit (isNotFlag (d .position .mouse)) (leb 1 (d .position .counts .right)) (λ e. le-leb _ _ (h .kept .held e))) ruled))))
 
@@ -210,7 +213,7 @@ kept-lawful B d h ruled =
 
 pub law-split : (B : List ℤ) (d : Desk) → eqb (lawfulRefusal B d) 0 ≡ lawful B d
 unfolding lawful lawfulRefusal
-law-split B d = go (shownLawful B d) (bitsLawful B d) (countsLawful d) (statesLawful B d)
+law-split B d = go (shownLawful B d) (bitsLawful B d) (countsLawful B d) (statesLawful B d)
   where
     go : (a b c s : Bool) → eqb (unless 261 a (unless 262 b (unless 263 c (unless 264 s 0)))) 0 ≡ (a && (b && (c && s)))
     go true true true true = refl

@@ -13,9 +13,8 @@ use Rattle.rules.specs.declared.GameState.the-variants.{Playing}
 use Rattle.rules.specs.Words.{pick}
 use Rattle.rules.specs.States.{isNotFlag}
 use Rattle.rules.specs.Board.{faceAt, mineAt}
-use Rattle.rules.specs.Opening.{closedAt, refreshed}
+use Rattle.rules.specs.Opening.{closedAt, refreshed, countShown, isOpen}
 use Rattle.rules.specs.Clicks.{Desk, desk, addLeft, leftCounts, solvesLeft, leftOpens, leftClick, ended}
-use Rattle.rules.specs.Lawful.{countShown, isOpen}
 use Rattle.cells.specs.Ground.{Valued}
 use Rattle.cells.proofs.Words.{bit-le}
 use Rattle.opening.proofs.Cost.{face-range}
@@ -48,11 +47,11 @@ module _ (n : ℕ) (B : List ℤ) (i : ℕ) (d : Desk) (g : d .position .game �
     (e : closedAt (d .shown) i ≡ true) where
   opens-by : (t : Bool) → mineAt B i ≡ t
       → Live (suc n) B (d .position .settings)
-      (ended B 2 (pick t (addLeft d) (leftCounts B (addLeft d) i)) (refreshed B (d .position .settings .rows) (d .position .settings .columns) (i ∷ []) (d .shown)) .desk)
+      (ended 2 (pick t (addLeft d) (leftCounts B (addLeft d) i)) (refreshed B (d .position .settings .rows) (d .position .settings .columns) (i ∷ []) (d .shown)) .desk)
   opens-by true m =
       let b = h .bounded in
       ended-live 2 (addLeft d) (refreshed B (d .position .settings .rows) (d .position .settings .columns) (i ∷ []) (d .shown)) g refl
-      (opened-sound (i ∷ []) h (omega arith) (omega arith) refl
+      (opened-sound (i ∷ []) h (omega arith) (omega arith) refl refl
       (let a = h .solved in
       let o = opens-more B (d .position .settings .rows) (d .position .settings .columns) (i ∷ []) (d .shown) (h .ground .mined .valued) in
       omega arith))
@@ -61,7 +60,7 @@ module _ (n : ℕ) (B : List ℤ) (i : ℕ) (d : Desk) (g : d .position .game �
   opens-by false m =
       let b = h .bounded in
       ended-live 2 (leftCounts B (addLeft d) i) (refreshed B (d .position .settings .rows) (d .position .settings .columns) (i ∷ []) (d .shown)) g refl
-      (opened-sound (i ∷ []) h (omega arith) (omega arith) refl
+      (opened-sound (i ∷ []) h (omega arith) (omega arith) refl refl
       (let a = h .solved in
       let t = bit-le (solvesLeft B (addLeft d) i) in
       let o = left-opens-more B (d .position .settings .rows) (d .position .settings .columns) i (d .shown) (h .ground .mined .valued) (h .ground .board) e m in

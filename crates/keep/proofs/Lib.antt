@@ -1,5 +1,6 @@
 pub mod Lawful
 pub mod Counting
+pub mod Unopened
 pub mod Fresh
 pub mod Reshow
 pub mod Moves

@@ -18,11 +18,12 @@ use Rattle.rules.specs.declared.MouseState.{MouseState}
 use Rattle.rules.specs.declared.MouseState.the-variants.{UpUp, UpDown, UpDownNotFlag, DownUp, Chording, ChordingNotFlag, DownUpAfterChording}
 use Rattle.rules.specs.States.{mouseNumber, mouseAt, isLoss, isNotFlag, withGame, withMiddle, withCounts, withRight, withEvents, zeroed}
 use Rattle.rules.specs.Board.{faceAt}
+use Rattle.rules.specs.Opening.{countShown}
 use Rattle.rules.specs.Clicks.{Desk, desk, on, addLeft, addRight}
 use Rattle.rules.specs.Passes.{addDouble}
 use Rattle.rules.specs.Mouse.{mouseTable, nextMouse, moved}
 use Rattle.rules.specs.Step.{mouse, move}
-use Rattle.rules.specs.Lawful.{countShown, shows, isFlag, cellLawful}
+use Rattle.rules.specs.Lawful.{shows, isFlag, cellLawful}
 use Rattle.cells.proofs.Words.{and-left, and-right}
 use Rattle.bits.proofs.Bits.{bit-none}
 use Rattle.keep.specs.Kept.{Ground, Bounded, Sound, SoundAt, Untouched, Phase, Kept}
@@ -30,47 +31,48 @@ use Rattle.keep.proofs.Counting.{shown-none, shown-zero}
 
 -- ---- counts ----------------------------------------------------------------------------------------------------------------------------
 
--- counts that meet the bound m, with the same flag and solved counts
+-- counts that meet the bound m, with the same flag and solved counts and as many safe cells still closed
 pub recount : {n m : ℕ} {B : List ℤ} {t : Bool} {s : Settings} {c c′ : Counts} {k k′ : Secrets} {l b : List ℕ} → Sound n B t s c k l b
     → Bounded m c′ k′ → c′ .double + n ≤ c .double + m → k′ .«solved_left» + k′ .«solved_chord» ≡ k .«solved_left» + k .«solved_chord» → c′ .flag ≡ c .flag
-    → Sound m B t s c′ k′ l b
-recount h b d e f = record {
+    → c′ .unopened ≡ c .unopened → Sound m B t s c′ k′ l b
+recount h b d e f u = record {
   ground = h .ground;
   bounded = b;
   double = let a = h .double in omega arith;
   solved = let a = h .solved in omega arith;
   flag = f ∙ h .flag;
+  unopened = u ∙ h .unopened;
   wrong = h .wrong;
   cells = h .cells;
   mines = h .mines;
 }
 
 pub sound-later : {n : ℕ} {B : List ℤ} {t : Bool} {s : Settings} {c : Counts} {k : Secrets} {l b : List ℕ} → Sound n B t s c k l b → Sound (suc n) B t s c k l b
-sound-later h = let b = h .bounded in recount h (omega arith) (omega arith) refl refl
+sound-later h = let b = h .bounded in recount h (omega arith) (omega arith) refl refl refl
 
 -- nothing but the bound changes
 pub later : {n : ℕ} {B : List ℤ} {d : Desk} → Kept n B d → Kept (suc n) B d
 later h = record { sound = sound-later (h .sound); preflags = let a = h .preflags in omega arith; held = h .held; phase = h .phase }
 
--- other counts, with the same flag count
+-- other counts, with the same flag count and as many safe cells still closed
 pub count-keeps : {n m : ℕ} {B : List ℤ} {d : Desk} (c′ : Counts) → n ≤ m → Bounded m c′ (d .position .secrets) → c′ .double + n ≤ d .position .counts .double + m
-    → c′ .flag ≡ d .position .counts .flag → (isNotFlag (d .position .mouse) ≡ true → 1 ≤ c′ .right) → Kept n B d → Kept m B (on d (withCounts (d .position) c′))
-count-keeps c′ le b db f r h = record { sound = recount (h .sound) b db refl f; preflags = let a = h .preflags in omega arith; held = r; phase = h .phase }
+    → c′ .flag ≡ d .position .counts .flag → c′ .unopened ≡ d .position .counts .unopened → (isNotFlag (d .position .mouse) ≡ true → 1 ≤ c′ .right) → Kept n B d → Kept m B (on d (withCounts (d .position) c′))
+count-keeps c′ le b db f u r h = record { sound = recount (h .sound) b db refl f u; preflags = let a = h .preflags in omega arith; held = r; phase = h .phase }
 
 pub left-counts : {n : ℕ} {B : List ℤ} {d : Desk} → Kept n B d → Kept (suc n) B (addLeft d)
-left-counts h = let b = h .sound .bounded in count-keeps _ (omega arith) (omega arith) (omega arith) refl (h .held) h
+left-counts h = let b = h .sound .bounded in count-keeps _ (omega arith) (omega arith) (omega arith) refl refl (h .held) h
 
 pub double-counts : {n : ℕ} {B : List ℤ} {d : Desk} → Kept n B d → Kept (suc n) B (addDouble d)
-double-counts h = let b = h .sound .bounded in count-keeps _ (omega arith) (omega arith) (omega arith) refl (h .held) h
+double-counts h = let b = h .sound .bounded in count-keeps _ (omega arith) (omega arith) (omega arith) refl refl (h .held) h
 
 pub right-sound : {n : ℕ} {B : List ℤ} (d : Desk) → SoundAt n B d → SoundAt (suc n) B (addRight d)
-right-sound d h = let b = h .bounded in recount h (omega arith) (omega arith) refl refl
+right-sound d h = let b = h .bounded in recount h (omega arith) (omega arith) refl refl refl
 
 -- the right press is taken back where the mouse is in no NotFlag state
 pub right-back : {n : ℕ} {B : List ℤ} {d : Desk} → isNotFlag (d .position .mouse) ≡ false → Kept n B d
     → Kept n B (on d (withRight (d .position) (d .position .counts .right - 1)))
 right-back m h =
-    let b = h .sound .bounded in count-keeps _ (omega arith) (omega arith) (omega arith) refl (λ e. absurd (false≢true (sym m ∙ e))) h
+    let b = h .sound .bounded in count-keeps _ (omega arith) (omega arith) (omega arith) refl refl (λ e. absurd (false≢true (sym m ∙ e))) h
 
 -- the event is counted
 pub events-keeps : {n : ℕ} {B : List ℤ} {d : Desk} (m : ℕ) → Kept n B d → Kept n B (on d (withEvents (d .position) m))
@@ -220,10 +222,10 @@ no-flags {B = B} {s = s} {l = l} h e =
 
 -- no pre-flag left and no NotFlag state: cleared, at any bound
 pub cleared-kept : {n : ℕ} {B : List ℤ} {s : Settings} {c : Counts} {k : Secrets} {l b : List ℕ} (m : ℕ) (p : Position)
-    → p .settings ≡ s → p .secrets .«solved_left» + p .secrets .«solved_chord» ≡ k .«solved_left» + k .«solved_chord»
+    → p .settings ≡ s → p .secrets .«solved_left» + p .secrets .«solved_chord» ≡ k .«solved_left» + k .«solved_chord» → p .counts .unopened ≡ c .unopened
     → Sound n B false s c k l b → Untouched (p .mouse) (p .preflags) l
     → Kept m B (desk (zeroed p) l (replicate (length b) 0))
-cleared-kept {n} {B} {s} {c} {k} {l} {b} m p es ek h u = record {
+cleared-kept {n} {B} {s} {c} {k} {l} {b} m p es ek en h u = record {
   sound = record {
     ground =
         subst⁻¹ (λ (s : Settings). Ground B s l (replicate (length b) 0)) es
@@ -232,6 +234,7 @@ cleared-kept {n} {B} {s} {c} {k} {l} {b} m p es ek h u = record {
     double = omega arith;
     solved = let a = h .solved in omega arith;
     flag = sym (no-flags h (u .unflagged));
+    unopened = en ∙ h .unopened;
     wrong = h .wrong;
     cells = λ i lt. ap (λ (s : Settings). cellLawful (s .question) false (faceAt B i) (getD l i 0)) es ∙ h .cells i lt;
     mines = λ i e. absurd (false≢true (sym (bit-none (length b) i) ∙ e));

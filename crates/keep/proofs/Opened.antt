@@ -3,7 +3,7 @@ use mathlib.Core.Path.{_≡_, _∙_, sym, ap, refl, subst, subst⁻¹}
 use mathlib.Core.Bool.{Bool, true, false, not, true≢false, false≢true}
 use mathlib.Core.List.{List, [], _∷_}
 use mathlib.Core.Logic.{_⊎_, inl, inr, ⊎-elim}
-use Prim.Native.Nat.{ℕ, zero, suc, _+_, _*_, _<_, _≤_}
+use Prim.Native.Nat.{ℕ, zero, suc, _+_, _-_, _*_, _<_, _≤_}
 use native.Mathlib.Omega.{arith}
 use native.Mathlib.Decide.{ℕ-discrete}
 use borrow.Author.Tests.{eq-eqb, ne-eqb, le-leb}
@@ -18,9 +18,9 @@ use Rattle.rules.specs.declared.GameState.the-variants.{Playing, Win, Loss}
 use Rattle.rules.specs.Words.{pick}
 use Rattle.rules.specs.States.{isLoss, isNotFlag, withGame}
 use Rattle.rules.specs.Board.{faceAt, mineAt}
-use Rattle.rules.specs.Opening.{closedAt, shownAfter, stackAfter, hitAfter, run, turns, crossed, Opened, refreshed}
-use Rattle.rules.specs.Clicks.{Desk, desk, done, showing, ended, isWon}
-use Rattle.rules.specs.Lawful.{countShown, shows, isOpen, isFlag, isOpenOrHit, cellLawful}
+use Rattle.rules.specs.Opening.{closedAt, shownAfter, stackAfter, hitAfter, run, turns, crossed, Opened, refreshed, countShown, isOpen, openedIn}
+use Rattle.rules.specs.Clicks.{Desk, done, on, uncovered, ended}
+use Rattle.rules.specs.Lawful.{shows, isFlag, isOpenOrHit, cellLawful, isWon}
 use Rattle.cells.specs.Ground.{Valued}
 use Rattle.opening.specs.Changed.{Changed, kept, opened, wrong}
 use Rattle.opening.proofs.Cases.{shown-shut, hit-mine, hit-stays}
@@ -29,6 +29,7 @@ use Rattle.opening.proofs.Opening.{changed-flags, after-other, opening-length, 
 use Rattle.opening.proofs.Ticking.{opening-newly}
 use Rattle.keep.specs.Kept.{Bounded, Sound, Phase, Live}
 use Rattle.keep.proofs.Counting.{shown-some, shown-mono, shown-same}
+use Rattle.keep.proofs.Unopened.{won-read, open-safe, unopened-falls}
 
 -- ---- where no mine is hit, mines stay as they are --------------------------------------------------------------------------------------
 
@@ -151,15 +152,18 @@ module _ (B : List ℤ) (R C : ℕ) (given shown : List ℕ) (v : Valued B) wher
 
 pub opened-sound : {n m : ℕ} {B : List ℤ} {s : Settings} {c c′ : Counts} {k k′ : Secrets} {l b : List ℕ} (given : List ℕ) → Sound n B false s c k l b
     → Bounded m c′ k′ → c′ .double + n ≤ c .double + m → c′ .flag ≡ c .flag
+    → c′ .unopened ≡ c .unopened - openedIn l (refreshed B (s .rows) (s .columns) given l .shown)
     → k′ .«solved_left» + k′ .«solved_chord» ≤ countShown isOpen (refreshed B (s .rows) (s .columns) given l .shown)
     → Sound m B (refreshed B (s .rows) (s .columns) given l .hit) s c′ k′ (refreshed B (s .rows) (s .columns) given l .shown) b
-opened-sound {n} {m} {B} {s} {c} {c′} {k} {k′} {l} {b} given h bd db fl sv =
+opened-sound {n} {m} {B} {s} {c} {c′} {k} {k′} {l} {b} given h bd db fl un sv =
     let R : ℕ = s .rows in
     let C : ℕ = s .columns in
     let o : Opened = refreshed B R C given l in
     let v : Valued B = h .ground .mined .valued in
     let len : length (o .shown) ≡ length l = opening-length B R C given l in
     let ch : (i : ℕ) → Changed B (o .hit) i (getD l i 0) (getD (o .shown) i 0) = opening-changes B R C given l v in
+    let shows : (i : ℕ) → i < length (o .shown) → cellLawful (s .question) (o .hit) (faceAt B i) (getD (o .shown) i 0) ≡ true =
+    λ i lt. changed-cell (face-range B v i) (s .question) (ch i) (λ m e. opening-spares B R C given l i m e) (h .cells i (subst (λ (y : ℕ). i < y) len lt)) in
     record {
       ground = record { mined = h .ground .mined; numbers = h .ground .numbers; board = len ∙ h .ground .board; room = h .ground .room };
       bounded = bd;
@@ -169,9 +173,11 @@ opened-sound {n} {m} {B} {s} {c} {c′} {k} {k′} {l} {b} given h bd db fl sv =
           omega arith;
       solved = sv;
       flag = fl ∙ h .flag ∙ sym (shown-same isFlag l (o .shown) len (λ i _. changed-flags B v (o .hit) i (ch i)));
+      unopened =
+          un ∙ ap (λ (k : ℕ). k - openedIn l (o .shown)) (h .unopened)
+          ∙ unopened-falls B l (o .shown) len (λ i lt. open-safe _ _ _ _ (h .cells i lt)) (λ i lt. open-safe _ _ _ _ (shows i lt)) (opens-more B R C given l v);
       wrong = wrong-by (o .hit) refl;
-      cells = λ i lt.
-          changed-cell (face-range B v i) (s .question) (ch i) (λ m e. opening-spares B R C given l i m e) (h .cells i (subst (λ (y : ℕ). i < y) len lt));
+      cells = shows;
       mines = h .mines;
     }
   where
@@ -191,32 +197,35 @@ opened-sound {n} {m} {B} {s} {c} {c′} {k} {k′} {l} {b} given h bd db fl sv =
 
 -- a mine: Loss; else Win, or still Playing with a safe cell left
 pub ended-live : {m : ℕ} {B : List ℤ} {s : Settings} (a : ℕ) (d : Desk) (o : Opened) → d .position .game ≡ Playing → d .position .settings ≡ s
-    → Sound m B (o .hit) (d .position .settings) (d .position .counts) (d .position .secrets) (o .shown) (d .bits)
+    → Sound m B (o .hit) (d .position .settings) (uncovered d (o .shown) .position .counts) (d .position .secrets) (o .shown) (d .bits)
     → (o .hit ≡ true → 1 ≤ countShown (shows 15) (o .shown))
     → d .position .preflags ≤ m → (isNotFlag (d .position .mouse) ≡ true → 1 ≤ d .position .counts .right)
-    → Live m B s (ended B a d o .desk)
+    → Live m B s (ended a d o .desk)
 unfolding ended
-ended-live {m} {B} {s} a d o g es h hit p r = go (o .hit) refl (isWon B (o .shown)) refl
+ended-live {m} {B} {s} a d o g es h hit p r = go (o .hit) refl (eqb (uncovered d (o .shown) .position .counts .unopened) 0) refl
   where
-    sound : (t : Bool) → o .hit ≡ t → Sound m B t (d .position .settings) (d .position .counts) (d .position .secrets) (o .shown) (d .bits)
-    sound t e = subst (λ (t : Bool). Sound m B t (d .position .settings) (d .position .counts) (d .position .secrets) (o .shown) (d .bits)) e h
+    sound : (t : Bool) → o .hit ≡ t → Sound m B t (d .position .settings) (uncovered d (o .shown) .position .counts) (d .position .secrets) (o .shown) (d .bits)
+    sound t e = subst (λ (t : Bool). Sound m B t (d .position .settings) (uncovered d (o .shown) .position .counts) (d .position .secrets) (o .shown) (d .bits)) e h
 
-    go : (t : Bool) → o .hit ≡ t → (u : Bool) → isWon B (o .shown) ≡ u
-        → Live m B s (pick t (done 4 (desk (withGame (d .position) Loss) (o .shown) (d .bits)))
-        (pick u (done a (desk (withGame (d .position) Win) (o .shown) (d .bits))) (done a (showing d (o .shown)))) .desk)
+    won : isWon B (o .shown) ≡ eqb (uncovered d (o .shown) .position .counts .unopened) 0
+    won = won-read B (o .shown) _ (h .unopened)
+
+    go : (t : Bool) → o .hit ≡ t → (u : Bool) → eqb (uncovered d (o .shown) .position .counts .unopened) 0 ≡ u
+        → Live m B s (pick t (done 4 (on (uncovered d (o .shown)) (withGame (uncovered d (o .shown) .position) Loss)))
+        (pick u (done a (on (uncovered d (o .shown)) (withGame (uncovered d (o .shown) .position) Win))) (done a (uncovered d (o .shown)))) .desk)
     go true e u w = record { kept = record { sound = sound true e; preflags = p; held = r; phase = tt }; settings = es; told = λ _. hit e }
     go false e true w = record {
-      kept = record { sound = sound false e; preflags = p; held = r; phase = w };
+      kept = record { sound = sound false e; preflags = p; held = r; phase = won ∙ w };
       settings = es;
       told = λ l. let z : _≡_ {A = ℕ} 0 1 = cc in absurd (omega arith);
     }
     go false e false w = record {
       kept = record {
         sound =
-            subst⁻¹ (λ (g : GameState). Sound m B (isLoss g) (d .position .settings) (d .position .counts) (d .position .secrets) (o .shown) (d .bits)) g (sound false e);
+            subst⁻¹ (λ (g : GameState). Sound m B (isLoss g) (d .position .settings) (uncovered d (o .shown) .position .counts) (d .position .secrets) (o .shown) (d .bits)) g (sound false e);
         preflags = p;
         held = r;
-        phase = subst⁻¹ (λ (g : GameState). Phase g (d .position .mouse) (d .position .preflags) B (o .shown)) g w;
+        phase = subst⁻¹ (λ (g : GameState). Phase g (d .position .mouse) (d .position .preflags) B (o .shown)) g (won ∙ w);
       };
       settings = es;
       told = λ l. let z : _≡_ {A = ℕ} 0 1 = cc in absurd (omega arith);

@@ -1,13 +1,14 @@
--- No step closes an open cell: there are never fewer cells that show 0 to 8.
-use mathlib.Core.Path.{_≡_, refl, ap}
+-- No step closes an open cell: there are never fewer cells that show 0 to 8. So what a step opens can be read from the safe cells still closed.
+use mathlib.Core.Path.{_≡_, _∙_, sym, refl, ap}
 use mathlib.Core.Bool.{Bool, true, false, not, _&&_}
 use mathlib.Core.List.{List, [], _∷_}
-use Prim.Native.Nat.{ℕ, zero, suc, _+_, _≤_}
+use Prim.Native.Nat.{ℕ, zero, suc, _+_, _-_, _*_, _≤_}
 use native.Mathlib.Omega.{arith}
 use borrow.Author.Tests.{eqb-true}
 use lib.Dec.{leb, eqb}
-use lib.ListN.{getD, set}
+use lib.ListN.{length, getD, set}
 use lib.IntN.{ℤ}
+use Rattle.rules.specs.declared.Settings.{Settings}
 use Rattle.rules.specs.declared.Pointer.{Pointer}
 use Rattle.rules.specs.declared.Pointer.the-variants.{Cell, Off}
 use Rattle.rules.specs.declared.Decoded.{Decoded}
@@ -18,15 +19,17 @@ use Rattle.rules.specs.declared.GameState.{GameState}
 use Rattle.rules.specs.declared.GameState.the-variants.{Ready, Playing, Win, Loss, PreFlaging}
 use Rattle.rules.specs.Words.{pick}
 use Rattle.rules.specs.States.{isPlaying, withDce}
-use Rattle.rules.specs.Opening.{Opened, closedAt, refreshed}
-use Rattle.rules.specs.Clicks.{Desk, Play, done, on, rowsOf, columnsOf, cellsOf, addRight, flagged, chordIsUseful, isWon, ended, leftOpens, leftClick, takeBack, chordOpens, performChord}
+use Rattle.rules.specs.Opening.{Opened, closedAt, refreshed, isOpen, openedIn}
+use Rattle.rules.specs.Clicks.{Desk, Play, done, on, rowsOf, columnsOf, cellsOf, addRight, flagged, chordIsUseful, uncovered, ended, leftOpens, leftClick, takeBack, chordOpens, performChord}
 use Rattle.rules.specs.Passes.{Round, Scan, foundAny, listed, flagOne, flagAll, flagRound, flagPass, chordOne, chordScan, chordRound, chordMore, chordPass, bothRound, bothPass, modeBoth, modeFlag, modeChord, passesAfterFlag, passesAfterChord, addDouble, addDce, rightClick, chordingClick}
 use Rattle.rules.specs.Step.{mouse, onCell, seenAt, leftAt, rightAt, chordAt, chordFrom, playLc, playLr, playRc, playRr, playing, preFlag, readyLc, readyRc, ready, preLeft, preLr, clearedIf, preCell, preRight, backToReady, preRc, preFlaging, byGame, refusalAt, pointerOf, playAt, stepAt, stepBy, stepOn}
-use Rattle.rules.specs.Lawful.{isOpen}
 use Rattle.cells.specs.Ground.{Valued}
 use Rattle.cells.specs.Contracts.{openIn}
 use Rattle.cells.proofs.Words.{pick-both, rounds-keep}
 use Rattle.opening.proofs.Ticking.{ticked-shut, closed-shut, ticked-back, opening-newly}
+use Rattle.keep.specs.Kept.{LawfulAt}
+use Rattle.keep.proofs.Unopened.{OpenSafe, open-safe, unopened-less, opened-fell}
+use Rattle.keep.proofs.Step.{step-follows}
 
 -- at least n cells are open
 abbrev Wide : ℕ → Desk → Type 0
@@ -49,9 +52,9 @@ module _ (B : List ℤ) (v : Valued B) (n : ℕ) where
   refreshed-wide : (R C : ℕ) (given shown : List ℕ) → n ≤ openIn shown → n ≤ openIn (refreshed B R C given shown .shown)
   refreshed-wide R C given shown h = omega (arith, opening-newly B R C given shown v)
 
-  ended-opens : (a : ℕ) (d : Desk) (o : Opened) → n ≤ openIn (o .shown) → Opens n (ended B a d o)
+  ended-opens : (a : ℕ) (d : Desk) (o : Opened) → n ≤ openIn (o .shown) → Opens n (ended a d o)
   unfolding ended
-  ended-opens a d o h = either (o .hit) _ _ (record { wide = h }) (either (isWon B (o .shown)) _ _ (record { wide = h }) (record { wide = h }))
+  ended-opens a d o h = either (o .hit) _ _ (record { wide = h }) (either (eqb (uncovered d (o .shown) .position .counts .unopened) 0) _ _ (record { wide = h }) (record { wide = h }))
 
   left-opens : (i : ℕ) (d : Desk) → Wide n d → Opens n (leftClick B i d)
   unfolding leftClick leftOpens
@@ -300,3 +303,26 @@ module _ (B : List ℤ) (v : Valued B) (n : ℕ) where
 pub step-opens : (B : List ℤ) → Valued B → (code r c : ℕ) (d : Desk) → openIn (d .shown) ≤ openIn (stepOn B code r c d .desk .shown)
 unfolding stepOn
 step-opens B v code r c d = by-opens B v (openIn (d .shown)) code (pointerOf (d .position .settings) r c) d (omega arith) .wide
+
+-- ---- what a step opens is what the number of safe cells still closed falls by ------------------------------------------------------------
+
+pub record Fell (d e : Desk) : Type 0 where
+  pub less : e .position .counts .unopened ≤ d .position .counts .unopened
+  pub by : d .position .counts .unopened - e .position .counts .unopened ≡ openedIn (d .shown) (e .shown)
+
+lawful-fell : (B : List ℤ) (d e : Desk) → LawfulAt B d → LawfulAt B e → e .position .settings ≡ d .position .settings → openIn (d .shown) ≤ openIn (e .shown) → Fell d e
+lawful-fell B d e l m es more =
+    let s = l .kept .sound in
+    let t = m .kept .sound in
+    let long : length (e .shown) ≡ length (d .shown) = t .ground .board ∙ ap (λ (x : Settings). x .rows * x .columns) es ∙ sym (s .ground .board) in
+    let safe : OpenSafe B (d .shown) = λ i lt. open-safe _ _ _ _ (s .cells i lt) in
+    let safe′ : OpenSafe B (e .shown) = λ i lt. open-safe _ _ _ _ (t .cells i lt) in
+    record {
+      less = omega (arith, s .unopened, t .unopened, unopened-less B (d .shown) (e .shown) long safe safe′ more);
+      by = omega (arith, s .unopened, t .unopened, opened-fell B (d .shown) (e .shown) long safe safe′ more);
+    }
+
+pub step-fell : (B : List ℤ) (code r c : ℕ) (d : Desk) → LawfulAt B d → Fell d (stepOn B code r c d .desk)
+step-fell B code r c d l =
+    let f = step-follows B code r c d l in
+    lawful-fell B d (stepOn B code r c d .desk) l (f .lawful) (f .settings) (step-opens B (l .kept .sound .ground .mined .valued) code r c d)

@@ -1,5 +1,5 @@
 -- The automatic passes keep the position at the same bound; the right click and the chord by hand, with the passes that follow them, keep it at the next.
-use mathlib.Core.Path.{_≡_, _∙_, ap, refl, subst⁻¹}
+use mathlib.Core.Path.{_≡_, _∙_, refl, subst⁻¹}
 use mathlib.Core.Bool.{Bool, true, false, false≢true}
 use mathlib.Core.List.{List, [], _∷_}
 use Prim.Native.Nat.{ℕ, zero, suc, _+_, _<_, _≤_}
@@ -9,16 +9,15 @@ use lib.Dec.{eqb}
 use lib.IntN.{ℤ}
 use lib.ListN.{length, getD, set}
 use Rattle.rules.specs.declared.Settings.{Settings}
-use Rattle.rules.specs.declared.Counts.{Counts}
 use Rattle.rules.specs.declared.GameState.{GameState}
 use Rattle.rules.specs.declared.GameState.the-variants.{Ready, Playing, Win, Loss, PreFlaging}
 use Rattle.rules.specs.Words.{pick, rounds}
 use Rattle.rules.specs.States.{isLoss, isNotFlag, isPlaying, withFlag, withDce}
 use Rattle.rules.specs.Board.{faceAt}
-use Rattle.rules.specs.Opening.{closedAt}
-use Rattle.rules.specs.Clicks.{Desk, Play, desk, done, on, rowsOf, columnsOf, cellsOf, addRight, bitsWith, flagged, takeBack, performChord, isWon}
+use Rattle.rules.specs.Opening.{closedAt, countShown, isOpen}
+use Rattle.rules.specs.Clicks.{Desk, Play, desk, done, on, rowsOf, columnsOf, cellsOf, addRight, bitsWith, flagged, takeBack, performChord}
 use Rattle.rules.specs.Passes.{listed, flagOne, flagAll, Round, flagRound, foundAny, flagPass, Scan, noted, chordOne, chordScan, chordRound, chordMore, chordPass, bothRound, bothPass, modeBoth, modeFlag, modeChord, passesAfterFlag, passesAfterChord, rightClick, addDouble, addDce, chordingClick}
-use Rattle.rules.specs.Lawful.{countShown, isOpen}
+use Rattle.rules.specs.Lawful.{isWon}
 use Rattle.cells.proofs.Words.{and-right, pick-both, rounds-keep}
 use Rattle.opening.proofs.Cases.{closed-in}
 use Rattle.keep.specs.Kept.{SoundAt, Phase, Live}
@@ -81,6 +80,7 @@ module _ (n : ℕ) (B : List ℤ) (s : Settings) where
         double = omega arith;
         solved = refl;
         flag = omega arith;
+        unopened = refl;
         here = flag-lawful (d .position .settings .question) (isLoss (d .position .game)) (faceAt B i);
         room = bits-length B (d .bits) i;
         mines = bits-mines B (d .bits) i (bit-in (h .ground) i lt) (h .mines);
@@ -207,7 +207,7 @@ dce-live h l =
     let b = l .kept .sound .bounded in
     record {
       kept = record {
-        sound = recount (l .kept .sound) (omega arith) (omega arith) refl refl;
+        sound = recount (l .kept .sound) (omega arith) (omega arith) refl refl refl;
         preflags = l .kept .preflags;
         held = l .kept .held;
         phase = l .kept .phase;
@@ -229,7 +229,7 @@ chording-live n B i s d g l =
     (λ _.
     dce-live
     (let b = l .kept .sound .bounded in
-    let q : o .desk .position .counts .dce ≡ d .position .counts .dce = ap (λ (c : Counts). c .dce) (c .counts) in
+    let q : o .desk .position .counts .dce ≡ d .position .counts .dce = c .dce in
     omega arith)
     (c .live)))
 

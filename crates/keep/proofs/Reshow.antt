@@ -5,8 +5,8 @@ use mathlib.Core.List.{List}
 use Prim.Native.Nat.{ℕ, _+_, _/_, _<_, _≤_}
 use native.Mathlib.Omega.{arith}
 use native.Mathlib.Decide.{ℕ-discrete}
-use borrow.Author.Tests.{leb-true, lt-leb, le-ltb, not-true}
-use lib.Dec.{eqb, leb, ltb}
+use borrow.Author.Tests.{leb-true, lt-leb, not-true}
+use lib.Dec.{eqb, leb}
 use lib.IntN.{ℤ}
 use lib.ListN.{length, getD, set, length-set}
 use lib.Seq.{getD-set-same, getD-set-other}
@@ -16,12 +16,14 @@ use Rattle.rules.specs.declared.Secrets.{Secrets}
 use Rattle.rules.specs.Words.{pick, bit}
 use Rattle.rules.specs.Board.{faceAt, mineAt}
 use Rattle.rules.specs.Lent.{bitAt, withBit}
+use Rattle.rules.specs.Opening.{countShown, isOpen}
 use Rattle.rules.specs.Clicks.{bitsWith}
-use Rattle.rules.specs.Lawful.{countShown, shows, isOpen, isFlag, isOpenOrHit, cellLawful}
+use Rattle.rules.specs.Lawful.{shows, isFlag, isOpenOrHit, cellLawful}
 use Rattle.cells.proofs.Words.{and-left, and-right}
 use Rattle.bits.proofs.Bits.{bit-kept, bit-length}
 use Rattle.keep.specs.Kept.{Ground, Bounded, Sound}
 use Rattle.keep.proofs.Counting.{shown-set, shown-some}
+use Rattle.keep.proofs.Unopened.{unopened-set}
 use Rattle.keep.proofs.Fresh.{closed-lawful}
 
 -- 10, 11 and 17: neither open nor the end of a game
@@ -30,7 +32,6 @@ pub record Hidden (x : ℕ) : Type 0 where
   pub unhit : isOpenOrHit x ≡ false
   pub not14 : shows 14 x ≡ false
   pub not15 : shows 15 x ≡ false
-  pub late : ltb x 10 ≡ false
 
 pub hidden : (x : ℕ) → (leb 10 x && (not (eqb x 14) && not (eqb x 15))) ≡ true → Hidden x
 hidden x e =
@@ -38,7 +39,7 @@ hidden x e =
     let h = leb-true 10 x (and-left (leb 10 x) _ e) in
     let c = lt-leb x 8 (omega arith) in
     let n = not-true (eqb x 15) (and-right (not (eqb x 14)) _ a) in
-    record { shut = c; unhit = rw (c, n); not14 = not-true (eqb x 14) (and-left (not (eqb x 14)) _ a); not15 = n; late = le-ltb x 10 h }
+    record { shut = c; unhit = rw (c, n); not14 = not-true (eqb x 14) (and-left (not (eqb x 14)) _ a); not15 = n }
 
 -- what the counts and the bits must meet where cell i goes from x to v, and the bound from n to m
 pub record Change (n m : ℕ) (B : List ℤ) (loss : Bool) (s : Settings) (i x v : ℕ) (c c′ : Counts) (k k′ : Secrets) (b b′ : List ℕ) : Type 0 where
@@ -46,6 +47,7 @@ pub record Change (n m : ℕ) (B : List ℤ) (loss : Bool) (s : Settings) (i x v
   pub double : c′ .double + n ≤ c .double + m
   pub solved : k′ .«solved_left» + k′ .«solved_chord» ≡ k .«solved_left» + k .«solved_chord»
   pub flag : c′ .flag + bit (isFlag x) ≡ c .flag + bit (isFlag v)
+  pub unopened : c′ .unopened ≡ c .unopened
   pub here : cellLawful (s .question) loss (faceAt B i) v ≡ true
   pub room : length b′ ≡ length b
   pub mines : (j : ℕ) → bitAt b′ j ≡ true → mineAt B j ≡ true
@@ -67,6 +69,7 @@ reshow {n} {m} {B} {loss} {s} {c} {c′} {k} {k′} {l} {b} {b′} i x v lt e hx
       double = let a = h .double in let z = ch .double in let o = same isOpenOrHit (hx .unhit) (hv .unhit) in omega arith;
       solved = let a = h .solved in let z = ch .solved in let o = same isOpen (hx .shut) (hv .shut) in omega arith;
       flag = let a = h .flag in let z = ch .flag in let o = shown-set isFlag l i x v lt e in omega arith;
+      unopened = ch .unopened ∙ h .unopened ∙ sym (unopened-set B l i x v lt e (hv .shut ∙ sym (hx .shut)));
       wrong = λ some.
           let o = same (shows 14) (hx .not14) (hv .not14) in
           let o′ = same (shows 15) (hx .not15) (hv .not15) in

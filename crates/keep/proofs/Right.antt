@@ -11,13 +11,14 @@ use lib.ListN.{length, getD, set}
 use Rattle.rules.specs.Words.{pick, bit}
 use Rattle.rules.specs.States.{isLoss, isPlaying}
 use Rattle.rules.specs.Board.{faceAt}
-use Rattle.rules.specs.Opening.{closedAt}
-use Rattle.rules.specs.Clicks.{Desk, desk, done, showing, addRight, flagged, unflagged, takeBack, addsRce, isWon}
+use Rattle.rules.specs.Opening.{closedAt, countShown, isOpen}
+use Rattle.rules.specs.Clicks.{Desk, desk, done, showing, addRight, flagged, unflagged, takeBack, addsRce}
 use Rattle.rules.specs.Passes.{rightClick, passesAfterFlag}
-use Rattle.rules.specs.Lawful.{countShown, shows, isOpen, isFlag}
+use Rattle.rules.specs.Lawful.{shows, isFlag, isWon}
 use Rattle.cells.proofs.Words.{bit-le}
 use Rattle.keep.specs.Kept.{SoundAt}
-use Rattle.keep.proofs.Counting.{shown-set, won-set}
+use Rattle.keep.proofs.Counting.{shown-set}
+use Rattle.keep.proofs.Unopened.{won-same, unopened-set}
 use Rattle.keep.proofs.Fresh.{closed-lawful}
 use Rattle.keep.proofs.Moves.{right-sound}
 use Rattle.keep.proofs.Reshow.{Hidden, hidden, reshow, flag-lawful, back-hidden, back-lawful, bits-length, bits-mines, bit-in, flag-has}
@@ -45,7 +46,7 @@ hidden-opens l i x v lt e hx hv =
     omega arith
 
 pub hidden-won : (B : List ℤ) (l : List ℕ) (i x v : ℕ) → i < length l → getD l i 0 ≡ x → Hidden x → Hidden v → isWon B (set l i v) ≡ isWon B l
-hidden-won B l i x v lt e hx hv = won-set B l i x v lt e (hv .late ∙ sym (hx .late))
+hidden-won B l i x v lt e hx hv = won-same B l (set l i v) (unopened-set B l i x v lt e (hv .shut ∙ sym (hx .shut)))
 
 back-elevens : (l : List ℕ) (i : ℕ) (q : Bool) → i < length l → getD l i 0 ≡ 11 → countShown (shows 11) (set l i (pick q 17 10)) + 1 ≡ countShown (shows 11) l
 back-elevens l i true lt e = let a = shown-set (shows 11) l i 11 17 lt e in omega arith
@@ -66,6 +67,7 @@ module _ (n : ℕ) (B : List ℤ) (i : ℕ) (d : Desk) (h : SoundAt n B d) (lt :
           double = omega arith;
           solved = refl;
           flag = omega arith;
+          unopened = refl;
           here = flag-lawful (d .position .settings .question) (isLoss (d .position .game)) (faceAt B i);
           room = bits-length B (d .bits) i;
           mines = bits-mines B (d .bits) i (bit-in (h .ground) i lt) (h .mines);
@@ -95,6 +97,7 @@ module _ (n : ℕ) (B : List ℤ) (i : ℕ) (d : Desk) (h : SoundAt n B d) (lt :
               double = omega arith;
               solved = refl;
               flag = let f = flag-has h i lt e in let z = back-flag q in omega arith;
+              unopened = refl;
               here = back-lawful q (isLoss (d .position .game)) (faceAt B i);
               room = refl;
               mines = h .mines;
@@ -122,6 +125,7 @@ module _ (n : ℕ) (B : List ℤ) (i : ℕ) (d : Desk) (h : SoundAt n B d) (lt :
           double = omega arith;
           solved = refl;
           flag = omega arith;
+          unopened = refl;
           here = closed-lawful (d .position .settings .question) (isLoss (d .position .game)) (faceAt B i);
           room = refl;
           mines = h .mines;

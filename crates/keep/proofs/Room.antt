@@ -13,8 +13,9 @@ use Rattle.rules.specs.declared.Secrets.{Secrets}
 use Rattle.rules.specs.declared.Pointer.the-variants.{Cell}
 use Rattle.rules.specs.declared.GameState.the-variants.{PreFlaging}
 use Rattle.rules.specs.Grid.{cellOf}
+use Rattle.rules.specs.Opening.{isOpen}
 use Rattle.rules.specs.Clicks.{Desk}
-use Rattle.rules.specs.Lawful.{shows, isOpen, isFlag, isOpenOrHit}
+use Rattle.rules.specs.Lawful.{shows, isFlag, isOpenOrHit}
 use Rattle.cells.proofs.Grid.{cell-lt}
 use Rattle.keep.specs.Kept.{Ground, Sound, Kept, Inside}
 use Rattle.keep.proofs.Counting.{shown-le, shown-some}

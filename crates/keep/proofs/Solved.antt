@@ -1,31 +1,25 @@
 -- A lawful Win has nothing left to solve: all that is not open is mines.
 use mathlib.Core.Path.{_≡_, refl, subst}
-use mathlib.Core.Bool.{Bool, true, false, _||_, false≢true}
+use mathlib.Core.Bool.{Bool, true, false, _||_}
 use mathlib.Core.List.{List}
 use Prim.Native.Nat.{ℕ, _*_, _<_}
 use native.Mathlib.Omega.{arith}
-use borrow.Author.Tests.{eqb-true, ltb-true}
-use lib.Dec.{ltb, eqb}
+use borrow.Author.Tests.{eqb-true, leb-true}
+use lib.Dec.{eqb}
 use lib.ListN.{length, getD}
 use lib.IntN.{ℤ}
 use Rattle.rules.specs.declared.GameState.{GameState}
 use Rattle.rules.specs.declared.GameState.the-variants.{Win}
 use Rattle.rules.specs.Board.{faceAt}
+use Rattle.rules.specs.Opening.{isOpen}
 use Rattle.rules.specs.Judging.{leftToSolve}
-use Rattle.rules.specs.Lawful.{cellLawful}
-use Rattle.rules.specs.Clicks.{Desk, doneAt, isWon}
+use Rattle.rules.specs.Clicks.{Desk}
+use Rattle.rules.specs.Lawful.{doneAt, isWon}
 use Rattle.rules.specs.Calls.{lentRefusal, leftToSolveOf}
 use Rattle.cells.proofs.Words.{every-at}
 use Rattle.judging.proofs.Solving.{left-done}
 use Rattle.keep.specs.Kept.{Phase, LawfulAt}
 use Rattle.keep.proofs.Lawful.{lent-lawful}
-
--- no cell shows a 9
-no-nine : (question loss : Bool) (f x : ℕ) → cellLawful question loss f x ≡ true → 8 < x → x < 10 → ⊥
-unfolding cellLawful
-no-nine question loss f x e h k =
-    let z : x ≡ 9 = omega arith in
-    false≢true (subst (λ (y : ℕ). cellLawful question loss f y ≡ true) z e)
 
 module _ (B : List ℤ) (d : Desk) (l : LawfulAt B d) (won : d .position .game ≡ Win) where
   all-done : isWon B (d .shown) ≡ true
@@ -39,9 +33,9 @@ module _ (B : List ℤ) (d : Desk) (l : LawfulAt B d) (won : d .position .game �
       on : i < length (d .shown)
       on = rw (l .kept .sound .ground .board) lt
 
-      go : (b : Bool) → eqb (faceAt B i) 15 ≡ b → (b || ltb (getD (d .shown) i 0) 10) ≡ true → faceAt B i ≡ 15
+      go : (b : Bool) → eqb (faceAt B i) 15 ≡ b → (b || isOpen (getD (d .shown) i 0)) ≡ true → faceAt B i ≡ 15
       go true m t = eqb-true _ _ m
-      go false m t = absurd (no-nine _ _ _ _ (l .kept .sound .cells i on) h (ltb-true _ _ t))
+      go false m t = let o = leb-true (getD (d .shown) i 0) 8 t in absurd (omega arith)
 
   pub left-win : leftToSolve B (d .position .settings .rows) (d .position .settings .columns) (d .shown) ≡ 0
   left-win = left-done B (d .position .settings .rows) (d .position .settings .columns) (d .shown) (l .kept .sound .ground .board) mines-left

@@ -20,41 +20,12 @@ use Rattle.rules.specs.declared.MouseState.the-variants.{UpDownNotFlag}
 use Rattle.rules.specs.Words.{pick, bit}
 use Rattle.rules.specs.States.{isLoss, isNotFlag, isPlaying, withGame, withMouse, withMiddle, withPreflags, withRight}
 use Rattle.rules.specs.Grid.{cellOf}
-use Rattle.rules.specs.Clicks.{Desk, Play, desk, done, on, columnsOf, addLeft, leftClick, isWon}
+use Rattle.rules.specs.Opening.{countShown, isOpen}
+use Rattle.rules.specs.Clicks.{Desk, Play, desk, done, on, columnsOf, addLeft, leftClick}
 use Rattle.rules.specs.Passes.{rightClick, chordingClick}
 use Rattle.rules.specs.Mouse.{moved}
-use Rattle.rules.specs.Step.{
-  mouse,
-  move,
-  onCell,
-  seenAt,
-  leftAt,
-  rightAt,
-  chordAt,
-  chordFrom,
-  playLc,
-  playLr,
-  playRc,
-  playRr,
-  playing,
-  preFlag,
-  readyLc,
-  readyRc,
-  ready,
-  cleared,
-  clearedIf,
-  backIf,
-  preLeft,
-  preLr,
-  lastTakenBack,
-  preCell,
-  preRight,
-  backToReady,
-  preRc,
-  preFlaging,
-  byGame,
-}
-use Rattle.rules.specs.Lawful.{countShown, shows, isOpen}
+use Rattle.rules.specs.Step.{mouse, move, onCell, seenAt, leftAt, rightAt, chordAt, chordFrom, playLc, playLr, playRc, playRr, playing, preFlag, readyLc, readyRc, ready, cleared, clearedIf, backIf, preLeft, preLr, lastTakenBack, preCell, preRight, backToReady, preRc, preFlaging, byGame}
+use Rattle.rules.specs.Lawful.{shows, isWon}
 use Rattle.cells.proofs.Words.{and-left, and-right, bit-le, pick-both}
 use Rattle.keep.specs.Kept.{Sound, SoundAt, Phase, Live, Inside, InsideOf}
 use Rattle.keep.proofs.Counting.{shown-set}
@@ -285,7 +256,7 @@ cleared-live {d = d} m g z u l =
     let w = phase-in PreFlaging g (l .kept) in
     record {
       kept =
-          cleared-kept m (d .position) refl refl (sound-in PreFlaging g (l .kept))
+          cleared-kept m (d .position) refl refl refl (sound-in PreFlaging g (l .kept))
           (record { unflagged = let a = w .flags in omega arith; unpreflagged = z; unheld = u; shut = w .shut });
       settings = l .settings;
       told = not-loss Ready refl;
@@ -314,14 +285,15 @@ module _ (n : ℕ) (B : List ℤ) (s : Settings) (d : Desk) (l : Live n B s d) (
         let w = phase-in PreFlaging g (l .kept) in
         record {
           kept =
-              cleared-kept (suc n) (withPreflags (d .position) 0) refl refl
-              (reshow {m = n} {c′ = record { left = d .position .counts .left; right = d .position .counts .right; double = d .position .counts .double; lce = d .position .counts .lce; dce = d .position .counts .dce; flag = d .position .counts .flag - 1 }}
+              cleared-kept (suc n) (withPreflags (d .position) 0) refl refl refl
+              (reshow {m = n} {c′ = record { left = d .position .counts .left; right = d .position .counts .right; double = d .position .counts .double; lce = d .position .counts .lce; dce = d .position .counts .dce; flag = d .position .counts .flag - 1; unopened = d .position .counts .unopened }}
               {k′ = d .position .secrets} {b′ = d .bits} i 11 10 lt e (hidden 11 refl) (hidden 10 refl)
               (record {
                 bounded = let b = h .bounded in omega arith;
                 double = omega arith;
                 solved = refl;
                 flag = let f = flag-has h i lt e in omega arith;
+                unopened = refl;
                 here = closed-lawful (d .position .settings .question) false _;
                 room = refl;
                 mines = h .mines;

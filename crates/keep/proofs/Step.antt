@@ -19,10 +19,11 @@ use Rattle.rules.specs.declared.GameState.{GameState}
 use Rattle.rules.specs.declared.GameState.the-variants.{Ready, Playing, Win, Loss, PreFlaging}
 use Rattle.rules.specs.Words.{pick, unless}
 use Rattle.rules.specs.States.{isLoss, withMiddle, withEvents}
+use Rattle.rules.specs.Opening.{countShown}
 use Rattle.rules.specs.Clicks.{Desk, Play, desk, done, on}
 use Rattle.rules.specs.Mouse.{rulesOk, resolved, flipped}
 use Rattle.rules.specs.Step.{mouse, byGame, pointerOf, eventOf, plainOf, eventRefusal, refusalAt, counts, playAt, stepAt, stepBy, stepOn}
-use Rattle.rules.specs.Lawful.{countShown, shows, lawful}
+use Rattle.rules.specs.Lawful.{shows, lawful}
 use Rattle.rules.specs.Calls.{plays, lastPlay, positionCheck}
 use Rattle.cells.proofs.Words.{and-left, and-right, pick-both, unless-passed}
 use Rattle.keep.specs.Kept.{Ground, Kept, Told, Live, LawfulAt, Follows, AllLawful, Inside, InsideOf}

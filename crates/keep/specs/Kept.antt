@@ -19,8 +19,9 @@ use Rattle.rules.specs.declared.MouseState.{MouseState}
 use Rattle.rules.specs.States.{isLoss, isNotFlag}
 use Rattle.rules.specs.Board.{faceAt, mineAt, valuesOk, numbersOk, someSafe}
 use Rattle.rules.specs.Lent.{bitAt, bitBytes}
-use Rattle.rules.specs.Clicks.{Desk, Play, isWon}
-use Rattle.rules.specs.Lawful.{countShown, shows, isOpen, isFlag, isOpenOrHit, cellLawful}
+use Rattle.rules.specs.Opening.{countShown, isOpen}
+use Rattle.rules.specs.Clicks.{Desk, Play}
+use Rattle.rules.specs.Lawful.{shows, isFlag, isOpenOrHit, cellLawful, isWon, unopenedIn}
 use Rattle.cells.specs.Ground.{Sized, Mined}
 
 -- what the tests 20 to 24 gave
@@ -53,6 +54,7 @@ pub record Sound (n : ℕ) (B : List ℤ) (loss : Bool) (s : Settings) (c : Coun
   pub double : c .double ≤ n + countShown isOpenOrHit shown
   pub solved : k .«solved_left» + k .«solved_chord» ≤ countShown isOpen shown
   pub flag : c .flag ≡ countShown isFlag shown
+  pub unopened : c .unopened ≡ unopenedIn B shown
   pub wrong : 1 ≤ countShown (shows 14) shown → 1 ≤ countShown (shows 15) shown
   pub cells : (i : ℕ) → i < length shown → cellLawful (s .question) loss (faceAt B i) (getD shown i 0) ≡ true
   pub mines : (m : ℕ) → bitAt bits m ≡ true → mineAt B m ≡ true

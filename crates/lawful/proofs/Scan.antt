@@ -9,8 +9,9 @@ use lib.IntN.{ℤ}
 use Rattle.rules.specs.declared.Position.{Position}
 use Rattle.rules.specs.Words.{bit, count, every}
 use Rattle.rules.specs.Board.{faceAt}
+use Rattle.rules.specs.Opening.{isOpen}
 use Rattle.rules.specs.Clicks.{desk}
-use Rattle.rules.specs.Lawful.{shows, isOpen, cellLawful, bitsLawful}
+use Rattle.rules.specs.Lawful.{shows, cellLawful, bitsLawful}
 use Rattle.cells.proofs.Words.{count-turn, count-le, every-turn, every-fails}
 use Rattle.lawful.specs.declared.Census.{Census}
 use Rattle.lawful.specs.Parts.{amongFirst, Counted, OneMore, cellsLawful, bitLawful}

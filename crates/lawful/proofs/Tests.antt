@@ -13,8 +13,10 @@ use Rattle.rules.specs.Words.{pick, bit, count}
 use Rattle.rules.specs.Board.{faceAt}
 use Rattle.rules.specs.Lent.{bitAt}
 use Rattle.rules.specs.Clicks.{Desk, desk}
-use Rattle.rules.specs.Lawful.{countShown, shows, isOpen, isFlag, isOpenOrHit, cellLawful, shownLawful, bitsLawful, countsLawful, statesLawful, lawfulRefusal}
+use Rattle.rules.specs.Lawful.{unopenedIn, shows, isFlag, isOpenOrHit, cellLawful, shownLawful, bitsLawful, countsLawful, statesLawful, lawfulRefusal}
 use Rattle.rules.specs.States.{isLoss}
+use Rattle.rules.specs.Opening.{countShown, isOpen}
+use Rattle.cells.proofs.Words.{and-left, and-right}
 use Rattle.lawful.specs.declared.Census.{Census}
 use Rattle.lawful.specs.Parts.{Counted, cellsLawful, bitLawful}
 
@@ -124,8 +126,9 @@ module _ (shown : List ℕ) (c : Census) (h : Counted shown (length shown) c) wh
       ap₂ _&&_ (e ∙ ap (λ (b : Bool). cellsLawful (p .settings .question) b B shown (length shown)) l)
       (ap₂ (λ (a b : ℕ). eqb a 0 || leb 1 b) fourteens-are fifteens-are)
 
-  pub counts-is : (p : Position) (bits : List ℕ)
+  pub counts-is : (B : List ℤ) (unopened : ℕ) → unopened ≡ unopenedIn B shown → (p : Position) (bits : List ℕ)
       → (eqb (p .counts .flag) (c .flags + c .wrong)
+      && (eqb (p .counts .unopened) unopened
       && (leb (p .counts .left) (p .events)
       && (leb (p .counts .right) (p .events)
       && (leb (p .counts .lce) (p .events)
@@ -134,12 +137,19 @@ module _ (shown : List ℕ) (c : Census) (h : Counted shown (length shown) c) wh
       && (leb (p .preflags) (p .events)
       && (leb (p .events) 65535
       && (leb (p .counts .double) (p .events + (c .opens + c .hits))
-      && leb (p .secrets .«solved_left» + p .secrets .«solved_chord») (c .opens))))))))))
-      ≡ countsLawful (desk p shown bits)
+      && leb (p .secrets .«solved_left» + p .secrets .«solved_chord») (c .opens)))))))))))
+      ≡ countsLawful B (desk p shown bits)
   unfolding countsLawful
-  counts-is p bits = rw (flags-are, opens-are, open-are)
+  counts-is B unopened e p bits = rw (flags-are, opens-are, open-are, e)
 
 -- ---- the chain -------------------------------------------------------------------------------------------------------------------------
+
+-- counts that are lawful have the safe cells not open right
+pub counted-right : (B : List ℤ) (d : Desk) {c : Bool} → c ≡ countsLawful B d → not c ≡ false → d .position .counts .unopened ≡ unopenedIn B (d .shown)
+unfolding countsLawful
+counted-right B d hc t =
+    eqb-true _ _ (and-left (eqb (d .position .counts .unopened) (unopenedIn B (d .shown))) _
+    (and-right (eqb (d .position .counts .flag) (countShown isFlag (d .shown))) _ (sym hc ∙ not-false _ t)))
 
 -- each refusal where its part is the first that fails, and 0 where none does
 module _ (B : List ℤ) (d : Desk) where
@@ -153,11 +163,11 @@ module _ (B : List ℤ) (d : Desk) where
     refused-bits hb f = simp (sym ha ∙ not-false _ ta, sym hb ∙ not-true _ f)
 
     module _ {b : Bool} (hb : b ≡ bitsLawful B d) (tb : not b ≡ false) where
-      pub refused-counts : {c : Bool} → c ≡ countsLawful d → not c ≡ true → 263 ≡ lawfulRefusal B d
+      pub refused-counts : {c : Bool} → c ≡ countsLawful B d → not c ≡ true → 263 ≡ lawfulRefusal B d
       unfolding lawfulRefusal
       refused-counts hc f = simp (sym ha ∙ not-false _ ta, sym hb ∙ not-false _ tb, sym hc ∙ not-true _ f)
 
-      module _ {c : Bool} (hc : c ≡ countsLawful d) (tc : not c ≡ false) where
+      module _ {c : Bool} (hc : c ≡ countsLawful B d) (tc : not c ≡ false) where
         pub refused-states : {s : Bool} → s ≡ statesLawful B d → not s ≡ true → 264 ≡ lawfulRefusal B d
         unfolding lawfulRefusal
         refused-states hs f = simp (sym ha ∙ not-false _ ta, sym hb ∙ not-false _ tb, sym hc ∙ not-false _ tc, sym hs ∙ not-true _ f)

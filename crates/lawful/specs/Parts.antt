@@ -8,7 +8,8 @@ use lib.IntN.{ℤ}
 use Rattle.rules.specs.Words.{bit, count, every}
 use Rattle.rules.specs.Board.{faceAt, mineAt}
 use Rattle.rules.specs.Lent.{bitAt}
-use Rattle.rules.specs.Lawful.{shows, isOpen, cellLawful}
+use Rattle.rules.specs.Opening.{isOpen}
+use Rattle.rules.specs.Lawful.{shows, cellLawful}
 use Rattle.cells.specs.Ground.{Valued}
 use Rattle.lawful.specs.declared.Census.{Census}
 

@@ -1,13 +1,14 @@
 // 261 to 264: the lawful position, clause by clause, in the four parts and the order of rules' Lawful: shown values, bits, counts, what the states ask.
-// One scan counts the shown board. The tests of the counts are made in 64 bits, where no sum of given counts wraps.
+// One scan counts the shown board, another the safe cells not open. The tests of the counts are made in 64 bits, where no sum of given counts wraps.
 ghost use mathlib.Core.Path.{_≡_};
 ghost use mathlib.Core.List.{List};
 ghost use Prim.Native.Nat.{ℕ, _+_, _*_, _<_, _≤_};
 ghost use lib.ListN.{length};
+ghost use lib.IntN.{ℤ};
 ghost use Rattle.rules.specs.declared.Position.{Position};
 ghost use Rattle.rules.specs.States.{isLoss, isNotFlag};
 ghost use Rattle.rules.specs.Clicks.{desk};
-ghost use Rattle.rules.specs.Lawful.{cellLawful, shownLawful, bitsLawful, countsLawful, gameLawful, statesLawful, lawfulRefusal};
+ghost use Rattle.rules.specs.Lawful.{unopenedIn, cellLawful, shownLawful, bitsLawful, countsLawful, gameLawful, statesLawful, lawfulRefusal};
 ghost use Rattle.cells.specs.Ground.{Valued};
 ghost use Rattle.lawful.specs.Parts.{Counted, OneMore, Checkable, cellsLawful, bitLawful};
 use rules::GameState;
@@ -174,9 +175,27 @@ pub fn bits_lawful(mines: &[i8], bits: &[u8]) -> bool
 
 // ---- counts ----------------------------------------------------------------------------------------------------------------------------
 
-// The counts against the events and the shown board.
-pub fn counts_lawful(p: Position, c: Census) -> bool
-    ensures { λ r. ⌜ ((shown bits : List ℕ) → Counted shown (length shown) c → r ≡ countsLawful (desk p shown bits)) ⌝ }
+// How many safe cells do not show 0 to 8.
+fn count_unopened(mines: &[i8], shown: &[u8]) -> u32
+    requires { ⌜ length (now mines) ≡ length (now shown) ⌝ }
+    requires { ⌜ Valued (now mines) ⌝ }
+    requires { ⌜ length (now shown) ≤ 2048 ⌝ }
+    ensures { λ r. ⌜ r ≡ unopenedIn (now (mines .entry)) (now (shown .entry)) ⌝ }
+{
+    let mut n = 0;
+    let mut i = 0;
+    while i < shown.len() {
+        let f = cells::face_at(mines, i);
+        let one = cells::one_if(!((f == 15) | (shown[i] <= 8)));
+        n += one;
+        i += 1;
+    }
+    n
+}
+
+// The counts against the events, the shown board and the safe cells not open.
+pub fn counts_lawful(p: Position, c: Census, unopened: u32) -> bool
+    ensures { λ r. ⌜ ((B : List ℤ) (shown bits : List ℕ) → Counted shown (length shown) c → unopened ≡ unopenedIn B shown → r ≡ countsLawful B (desk p shown bits)) ⌝ }
 {
     let n = p.events;
     let flags = (c.flags as u64) + (c.wrong as u64);
@@ -186,17 +205,15 @@ pub fn counts_lawful(p: Position, c: Census) -> bool
     let sums = ((p.counts.double as u64) <= doubles) & (solved <= (c.opens as u64));
     let rest = (p.secrets.rce <= n)
         & ((p.counts.dce <= n) & ((p.preflags <= n) & ((n <= 65535) & sums)));
-    ((p.counts.flag as u64) == flags)
-        & ((p.counts.left <= n) & ((p.counts.right <= n) & ((p.counts.lce <= n) & rest)))
+    let all = (p.counts.left <= n) & ((p.counts.right <= n) & ((p.counts.lce <= n) & rest));
+    ((p.counts.flag as u64) == flags) & ((p.counts.unopened == unopened) & all)
 }
 
 // ---- what the states ask ---------------------------------------------------------------------------------------------------------------
 
-fn game_lawful(g: GameState, p: Position, mines: &[i8], shown: &[u8], c: Census) -> bool
-    requires { ⌜ length (now mines) ≡ length (now shown) ⌝ }
-    requires { ⌜ Valued (now mines) ⌝ }
-    requires { ⌜ Counted (now shown) (length (now shown)) c ⌝ }
-    ensures { λ r. ⌜ ((bits : List ℕ) → r ≡ gameLawful g (now (mines .entry)) (desk p (now (shown .entry)) bits)) ⌝ }
+// Whether a safe cell is left is read from their number, which was tested before.
+fn game_lawful(g: GameState, p: Position, c: Census) -> bool
+    ensures { λ r. ⌜ ((B : List ℤ) (shown bits : List ℕ) → Counted shown (length shown) c → p .counts .unopened ≡ unopenedIn B shown → r ≡ gameLawful g B (desk p shown bits)) ⌝ }
 {
     match g {
         GameState::Ready => {
@@ -204,22 +221,19 @@ fn game_lawful(g: GameState, p: Position, mines: &[i8], shown: &[u8], c: Census)
             (c.flags == 0) & ((p.preflags == 0) & (!is_not_flag(mouse) & (c.opens == 0)))
         }
         GameState::PreFlaging => (c.flags <= p.preflags) & (c.opens == 0),
-        GameState::Playing => !winning::is_win(mines, shown),
-        GameState::Win => winning::is_win(mines, shown),
+        GameState::Playing => p.counts.unopened != 0,
+        GameState::Win => p.counts.unopened == 0,
         GameState::Loss => true,
     }
 }
 
 // What the game state asks; a NotFlag mouse state has right at least 1; the rules are 1 or 2.
-pub fn states_lawful(p: Position, mines: &[i8], shown: &[u8], c: Census) -> bool
-    requires { ⌜ length (now mines) ≡ length (now shown) ⌝ }
-    requires { ⌜ Valued (now mines) ⌝ }
-    requires { ⌜ Counted (now shown) (length (now shown)) c ⌝ }
-    ensures { λ r. ⌜ ((bits : List ℕ) → r ≡ statesLawful (now (mines .entry)) (desk p (now (shown .entry)) bits)) ⌝ }
+pub fn states_lawful(p: Position, c: Census) -> bool
+    ensures { λ r. ⌜ ((B : List ℤ) (shown bits : List ℕ) → Counted shown (length shown) c → p .counts .unopened ≡ unopenedIn B shown → r ≡ statesLawful B (desk p shown bits)) ⌝ }
 {
     let game = p.game;
     let mouse = p.mouse;
-    let asked = game_lawful(game, p, mines, shown, c);
+    let asked = game_lawful(game, p, c);
     let ruled = cells::rules_ok(p.settings.rules);
     asked & ((!is_not_flag(mouse) | (1 <= p.counts.right)) & ruled)
 }
@@ -238,10 +252,11 @@ pub fn lawful_refusal(p: Position, mines: &[i8], shown: &[u8], bits: &[u8]) -> u
     if !bits_lawful(mines, bits) {
         return 262;
     }
-    if !counts_lawful(p, c) {
+    let unopened = count_unopened(mines, shown);
+    if !counts_lawful(p, c, unopened) {
         return 263;
     }
-    if !states_lawful(p, mines, shown, c) {
+    if !states_lawful(p, c) {
         return 264;
     }
     0

@@ -18,6 +18,7 @@ use Rattle.rules.specs.Board.{boardRefusal, faultOf}
 use Rattle.rules.specs.States.{freshOf}
 use Rattle.rules.specs.Clicks.{Desk, Play, done, on}
 use Rattle.rules.specs.Mouse.{flipped}
+use Rattle.rules.specs.Opening.{openedIn}
 use Rattle.rules.specs.Lawful.{lawfulRefusal}
 use Rattle.rules.specs.Step.{pointerOf, stepOn, plainCode, plainOn}
 use Rattle.rules.specs.Calls.{
@@ -42,7 +43,6 @@ use Rattle.rules.specs.Calls.{
   refused,
   refusedAt,
   accepted,
-  openedIn,
   played,
   tested,
   resolveBy,
@@ -69,12 +69,12 @@ use Rattle.league.proofs.Sums.{resolve-leaves, pair-leaves}
 
 -- ---- setup ---------------------------------------------------------------------------------------------------------------------------------
 
-setup-number : (n : ℕ) (B : List ℤ) (s : Settings) (shown bits : List ℕ) → setupBy n B (freshOf s) s shown bits .answer .number ≡ 0 → n ≡ 0
+setup-number : (n : ℕ) (B : List ℤ) (s : Settings) (shown bits : List ℕ) → setupBy n B (freshOf s 0) s shown bits .answer .number ≡ 0 → n ≡ 0
 unfolding setupBy
 setup-number n B s shown bits e = go (eqb n 0) refl e
   where
     go : (b : Bool) → eqb n 0 ≡ b
-        → pick b (setUp (answers 0 (freshOf s) 0) (freshDesk s .shown) (freshDesk s .bits)) (setUp (refuses B (freshOf s) n) shown bits) .answer .number ≡ 0 → n ≡ 0
+        → pick b (setUp (answers 0 (freshDesk s B .position) 0) (freshDesk s B .shown) (freshDesk s B .bits)) (setUp (refuses B (freshOf s 0) n) shown bits) .answer .number ≡ 0 → n ≡ 0
     go true d e = eqb-true n 0 d
     go false d e = e
 
@@ -83,11 +83,11 @@ unfolding setupOf
 setup-passed s B shown bits e = setup-number (setupRefusal s B shown bits) B s shown bits e
 
 -- an accepted setup begins the game of the demand, and the position check accepts it
-pub begins : (s : Settings) (B : List ℤ) (shown bits : List ℕ) → setupOf s B shown bits .answer .number ≡ 0 → setBy (setupOf s B shown bits) ≡ freshDesk s
+pub begins : (s : Settings) (B : List ℤ) (shown bits : List ℕ) → setupOf s B shown bits .answer .number ≡ 0 → setBy (setupOf s B shown bits) ≡ freshDesk s B
 unfolding setupOf setupBy
 begins s B shown bits e = rw (setup-passed s B shown bits e)
 
-pub start-checked : (s : Settings) (B : List ℤ) (shown bits : List ℕ) → setupOf s B shown bits .answer .number ≡ 0 → positionCheck B (freshDesk s) ≡ 0
+pub start-checked : (s : Settings) (B : List ℤ) (shown bits : List ℕ) → setupOf s B shown bits .answer .number ≡ 0 → positionCheck B (freshDesk s B) ≡ 0
 start-checked s B shown bits e = setup-keeps s B shown bits (setup-passed s B shown bits e)
 
 -- ---- the tests of a call -------------------------------------------------------------------------------------------------------------------

@@ -85,5 +85,5 @@ steps-row B (code ∷ r ∷ c ∷ es) d =
 
 pub steps-play : StepsPlay
 steps-play s events B os g =
-    let same : map playOf os ≡ game s events B = game-moves g ∙ steps-row B events (freshDesk s) in
-    (same, game-told g ∙ (ap (toldAll (stepsOf events) (freshDesk s)) same ∙ steps-told events B (freshDesk s)))
+    let same : map playOf os ≡ game s events B = game-moves g ∙ steps-row B events (freshDesk s B) in
+    (same, game-told g ∙ (ap (toldAll (stepsOf events) (freshDesk s B)) same ∙ steps-told events B (freshDesk s B)))

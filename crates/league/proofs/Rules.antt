@@ -106,12 +106,12 @@ unfolding printoutOf printoutBy printoutBefore
 old-books s q = go (ℕ-discrete (bookOf s .number) 0) ∙ ap (λ (b : Book). printed s b (played b)) (book-before s q)
   where
     played : Book → List Play
-    played b = playsBefore (bookBoard s b) (eventsOf s b) (bookDesk b)
+    played b = playsBefore (bookBoard s b) (eventsOf s b) (bookDesk s b)
 
     go : Dec (bookOf s .number ≡ 0) → printed s (bookOf s) (bookPlays s (bookOf s)) ≡ printed s (bookOf s) (played (bookOf s))
     go (yes z) =
         ap (printed s (bookOf s))
-        (plays-one (bookBoard s (bookOf s)) (eventsOf s (bookOf s)) (bookDesk (bookOf s)) (book-lawful s (bookOf s) refl z) (old-rules s q z))
+        (plays-one (bookBoard s (bookOf s)) (eventsOf s (bookOf s)) (bookDesk s (bookOf s)) (book-lawful s (bookOf s) refl z) (old-rules s q z))
     go (no z) = refused-same s (bookOf s) (bookPlays s (bookOf s)) (played (bookOf s)) z
 
 -- ---- the demands -----------------------------------------------------------------------------------------------------------------------

@@ -16,23 +16,8 @@ use Rattle.rules.specs.declared.Decoded.the-variants.{At, Bad}
 use Rattle.rules.specs.Words.{pick}
 use Rattle.rules.specs.Clicks.{Desk, Play, done, on}
 use Rattle.rules.specs.Step.{pointerOf, refusalAt, playAt, stepAt, stepBy, stepOn, plainCode, plainOn}
-use Rattle.rules.specs.Calls.{
-  Outcome,
-  outcome,
-  resolveOf,
-  lentRefusal,
-  refused,
-  refusedAt,
-  accepted,
-  openedIn,
-  played,
-  stepOf,
-  plays,
-  lastPlay,
-  flowed,
-  flowRefusal,
-  flowOf,
-}
+use Rattle.rules.specs.Calls.{Outcome, outcome, resolveOf, lentRefusal, refused, refusedAt, accepted, played, stepOf, plays, lastPlay, flowed, flowRefusal, flowOf}
+use Rattle.rules.specs.Opening.{openedIn}
 use Rattle.cells.proofs.Words.{pick-both}
 use Rattle.game.proofs.Answers.{play-answers}
 use Rattle.board.specs.Pair.{pairBy, pairOf}

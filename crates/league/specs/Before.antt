@@ -57,8 +57,8 @@ playsBefore B (code ∷ r ∷ c ∷ es) d =
 abbrev pub printed : List ℕ → Book → List Play → List ℕ
 printed s b os =
     pick (eqb (b .number) 0)
-    (gameLine (b .settings) ++ (eventLines 1 os ++ endLines (bookBoard s b) (lastPlay (done 0 (bookDesk b)) os .desk)))
+    (gameLine (b .settings) ++ (eventLines 1 os ++ endLines (bookBoard s b) (lastPlay (done 0 (bookDesk s b)) os .desk)))
     (wordRefused ++ (spaced (b .number ∷ []) ++ wordLine wordAtPlace (b .place ∷ [])))
 
 unfoldable pub printoutBefore : List ℕ → List ℕ
-printoutBefore s = printed s (bookBefore s) (playsBefore (bookBoard s (bookBefore s)) (eventsOf s (bookBefore s)) (bookDesk (bookBefore s)))
+printoutBefore s = printed s (bookBefore s) (playsBefore (bookBoard s (bookBefore s)) (eventsOf s (bookBefore s)) (bookDesk s (bookBefore s)))

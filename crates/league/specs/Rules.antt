@@ -17,7 +17,7 @@ By rules d = d .position .settings .rules ≡ rules
 -- demand 1: whatever is refused has its number, and the position and all that is lent are as they were
 pub record FirstDemand (rules : ℕ) : Type 0 where
   pub setup : (s : Settings) (B : List ℤ) (shown bits : List ℕ) → s .rules ≡ rules → (setupRefusal s B shown bits ≡ 0 → ⊥)
-      → setupOf s B shown bits ≡ setUp (refuses B (freshOf s) (setupRefusal s B shown bits)) shown bits
+      → setupOf s B shown bits ≡ setUp (refuses B (freshOf s 0) (setupRefusal s B shown bits)) shown bits
   pub reset : (B : List ℤ) (d : Desk) → By rules d → (setupRefusal (d .position .settings) B (d .shown) (d .bits) ≡ 0 → ⊥)
       → resetOf B d ≡ setUp (refuses B (d .position) (setupRefusal (d .position .settings) B (d .shown) (d .bits))) (d .shown) (d .bits)
   pub resolve : (B : List ℤ) (code r c : ℕ) (d : Desk) → By rules d → (resolveOf B code r c d .number ≡ 0 → ⊥)
@@ -33,4 +33,4 @@ pub record FirstDemand (rules : ℕ) : Type 0 where
 abbrev pub ThirdDemand : ℕ → Type 0
 ThirdDemand rules =
     (s : Settings) (calls : List Call) (A B : List ℤ) (os ps : List Outcome) → s .rules ≡ rules → Game s calls A os → Game s calls B ps
-    → Twins s (endOf s (map playOf os)) A B → map seenBy os ≡ map seenBy ps
+    → Twins s (endOf s A (map playOf os)) A B → map seenBy os ≡ map seenBy ps

@@ -88,7 +88,7 @@ pub record Game (s : Settings) (calls : List Call) (B : List ℤ) (os : List Out
 -- after every call
 abbrev pub CodeDemand : Type 0
 CodeDemand =
-    (s : Settings) (calls : List Call) (A B : List ℤ) (os ps : List Outcome) → Game s calls A os → Game s calls B ps → Twins s (endOf s (map playOf os)) A B
+    (s : Settings) (calls : List Call) (A B : List ℤ) (os ps : List Outcome) → Game s calls A os → Game s calls B ps → Twins s (endOf s A (map playOf os)) A B
     → map seenBy os ≡ map seenBy ps
 
 -- what an answer has beside them says nothing: a call of such a game has no place

@@ -70,7 +70,7 @@ fn after_flag(question: bool) -> u8
 pub fn take_back(p: Position, shown: &mut [u8], cell: usize) -> Played
     requires { ⌜ cell < length (now shown) ⌝ }
     requires { ⌜ RoomAt p (now shown) ⌝ }
-    ensures { λ r. ⌜ ((bits : List ℕ) → play r (now (shown .exit)) bits ≡ takeBack cell (addRight (desk p (now (shown .entry)) bits))) × (r .opened ≡ 0) ⌝ }
+    ensures { λ r. ⌜ ((bits : List ℕ) → play r (now (shown .exit)) bits ≡ takeBack cell (addRight (desk p (now (shown .entry)) bits))) ⌝ }
 {
     let y = add_right(p);
     let v = shown[cell];
@@ -81,7 +81,6 @@ pub fn take_back(p: Position, shown: &mut [u8], cell: usize) -> Played
         let q = y.with_flag(n);
         return Played {
             answer: 1,
-            opened: 0,
             position: q,
         };
     }
@@ -89,13 +88,11 @@ pub fn take_back(p: Position, shown: &mut [u8], cell: usize) -> Played
         shown[cell] = 10;
         return Played {
             answer: 1,
-            opened: 0,
             position: y,
         };
     }
     Played {
         answer: 0,
-        opened: 0,
         position: y,
     }
 }

@@ -53,12 +53,11 @@ pub fn moved(e: usize, p: Position) -> Position
 // The mouse state moves on, and nothing else happens.
 pub fn moves(e: usize, p: Position) -> Played
     requires { ⌜ e < 8 ⌝ }
-    ensures { λ r. ⌜ r ≡ record { answer = 0; opened = 0; position = movedOf e p } ⌝ }
+    ensures { λ r. ⌜ r ≡ record { answer = 0; position = movedOf e p } ⌝ }
 {
     let q = moved(e, p);
     Played {
         answer: 0,
-        opened: 0,
         position: q,
     }
 }

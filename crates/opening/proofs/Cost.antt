@@ -11,8 +11,8 @@ use lib.ListN.{length, getD, set, length-set, List·getD-eq-default}
 use lib.IntN.{ℤ, pos, negsuc}
 use Rattle.rules.specs.Words.{bit}
 use Rattle.rules.specs.Board.{face, faceAt, valueOk}
-use Rattle.rules.specs.Opening.{closedAt, shownAfter, stackAfter}
-use Rattle.rules.specs.Lawful.{countShown, shows}
+use Rattle.rules.specs.Opening.{closedAt, shownAfter, stackAfter, countShown}
+use Rattle.rules.specs.Lawful.{shows}
 use Rattle.cells.specs.Ground.{Valued}
 use Rattle.cells.proofs.Words.{count-le}
 use Rattle.cells.proofs.Grid.{pushed-height}

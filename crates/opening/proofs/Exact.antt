@@ -12,8 +12,8 @@ use lib.Seq.{ext-getD}
 use lib.IntN.{ℤ}
 use Rattle.rules.specs.Grid.{neighbour}
 use Rattle.rules.specs.Board.{faceAt, mineAt}
-use Rattle.rules.specs.Opening.{closedAt, shownAfter, stackAfter, hitAfter, run, turns, Opened}
-use Rattle.rules.specs.Lawful.{countShown, shows}
+use Rattle.rules.specs.Opening.{closedAt, shownAfter, stackAfter, hitAfter, run, turns, Opened, countShown}
+use Rattle.rules.specs.Lawful.{shows}
 use Rattle.cells.specs.Ground.{Valued}
 use Rattle.cells.proofs.Words.{false-unless}
 use Rattle.opening.specs.Changed.{In}

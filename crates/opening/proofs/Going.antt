@@ -11,7 +11,8 @@ use lib.Seq.{getD-set-same, getD-set-other}
 use lib.IntN.{ℤ}
 use Rattle.rules.specs.Words.{stackOf}
 use Rattle.rules.specs.Lent.{workRoom}
-use Rattle.rules.specs.Lawful.{countShown, shows}
+use Rattle.rules.specs.Opening.{countShown}
+use Rattle.rules.specs.Lawful.{shows}
 use Rattle.cells.specs.Ground.{Valued, Below, Fitting}
 use Rattle.cells.proofs.Words.{stack-above}
 use Rattle.opening.specs.Quick.{Front, front, touchedAround, quick, quickFrom}

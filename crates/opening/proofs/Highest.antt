@@ -5,8 +5,8 @@ use Prim.Native.Nat.{ℕ, zero, suc, _+_, _*_, _≤_}
 use native.Mathlib.Omega.{arith}
 use lib.ListN.{length}
 use lib.IntN.{ℤ}
-use Rattle.rules.specs.Opening.{shownAfter, stackAfter, turns}
-use Rattle.rules.specs.Lawful.{countShown, shows}
+use Rattle.rules.specs.Opening.{shownAfter, stackAfter, turns, countShown}
+use Rattle.rules.specs.Lawful.{shows}
 use Rattle.cells.specs.Ground.{Valued}
 use Rattle.opening.specs.Rust.{highest}
 use Rattle.opening.proofs.Cost.{closed-most, cheaper}

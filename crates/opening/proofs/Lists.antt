@@ -9,9 +9,9 @@ use borrow.Author.Tests.{eqb-true, eqb-false}
 use lib.Dec.{eqb}
 use lib.ListN.{length, getD, set, length-set}
 use lib.Seq.{getD-set-same, getD-set-other}
-use Rattle.rules.specs.Lawful.{countShown}
 use Rattle.rules.specs.Words.{bit, count}
 use Rattle.rules.specs.Grid.{neighbour, pushIf, pushed}
+use Rattle.rules.specs.Opening.{countShown}
 use Rattle.cells.proofs.Words.{count-mono, count-change}
 use Rattle.opening.specs.Changed.{In}
 

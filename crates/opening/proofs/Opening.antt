@@ -13,8 +13,8 @@ use lib.IntN.{ℤ}
 use Rattle.rules.specs.Words.{pick, bit, count}
 use Rattle.rules.specs.Grid.{neighbour, around}
 use Rattle.rules.specs.Board.{faceAt, mineAt, numberOk, numbersOk}
-use Rattle.rules.specs.Opening.{closedAt, shownAfter, stackAfter, hitAfter, run, turns, Opened, wrongFlag, crossed, crossedIfHit, refreshed}
-use Rattle.rules.specs.Lawful.{countShown, shows, isOpen, isOpenOrHit, isFlag}
+use Rattle.rules.specs.Opening.{closedAt, shownAfter, stackAfter, hitAfter, run, turns, Opened, wrongFlag, crossed, crossedIfHit, refreshed, countShown, isOpen}
+use Rattle.rules.specs.Lawful.{shows, isOpenOrHit, isFlag}
 use Rattle.opening.specs.Changed.{In, Changed, kept, opened, wrong}
 use Rattle.opening.specs.Reach.{Opens}
 use Rattle.cells.specs.Ground.{Valued}

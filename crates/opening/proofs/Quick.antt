@@ -11,8 +11,8 @@ use lib.ListN.{length}
 use lib.IntN.{ℤ}
 use Rattle.rules.specs.Grid.{neighbour, pushIf}
 use Rattle.rules.specs.Board.{faceAt}
-use Rattle.rules.specs.Opening.{closedAt, shownAfter, hitAfter, run, turns}
-use Rattle.rules.specs.Lawful.{countShown, shows}
+use Rattle.rules.specs.Opening.{closedAt, shownAfter, hitAfter, run, turns, countShown}
+use Rattle.rules.specs.Lawful.{shows}
 use Rattle.cells.specs.Ground.{Valued}
 use Rattle.cells.proofs.Words.{false-unless}
 use Rattle.opening.specs.Changed.{In}

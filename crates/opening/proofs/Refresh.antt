@@ -13,8 +13,8 @@ use lib.IntN.{ℤ}
 use Rattle.rules.specs.Words.{pick, stackOf}
 use Rattle.rules.specs.Board.{faceAt}
 use Rattle.rules.specs.Lent.{workRoom}
-use Rattle.rules.specs.Opening.{run, turns, Opened, wrongFlag, crossed, crossedIfHit, refreshed}
-use Rattle.rules.specs.Lawful.{countShown, shows}
+use Rattle.rules.specs.Opening.{run, turns, Opened, wrongFlag, crossed, crossedIfHit, refreshed, countShown}
+use Rattle.rules.specs.Lawful.{shows}
 use Rattle.cells.specs.Ground.{Below, Fitting}
 use Rattle.cells.specs.Contracts.{Laid, Leaves}
 use Rattle.cells.proofs.Words.{stack-length}

@@ -10,9 +10,8 @@ use lib.ListN.{length, getD, set, List·getD-eq-default}
 use lib.IntN.{ℤ, pos}
 use Rattle.rules.specs.Words.{pick, bit, count}
 use Rattle.rules.specs.Board.{faceAt}
-use Rattle.rules.specs.Opening.{Opened, closedAt, wrongFlag, crossed, refreshed}
+use Rattle.rules.specs.Opening.{Opened, closedAt, wrongFlag, crossed, refreshed, countShown, isOpen}
 use Rattle.rules.specs.Clicks.{Desk, Play, takeBack}
-use Rattle.rules.specs.Lawful.{countShown, isOpen}
 use Rattle.cells.specs.Ground.{Valued}
 use Rattle.cells.specs.Contracts.{openIn, Ticked}
 use Rattle.cells.proofs.Words.{pick-both, count-le, count-zero}

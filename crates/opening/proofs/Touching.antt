@@ -13,8 +13,8 @@ use lib.IntN.{ℤ}
 use Rattle.rules.specs.Words.{stackOf}
 use Rattle.rules.specs.Grid.{cellOf, neighbour, pushIf}
 use Rattle.rules.specs.Board.{faceAt}
-use Rattle.rules.specs.Opening.{closedAt}
-use Rattle.rules.specs.Lawful.{countShown, shows}
+use Rattle.rules.specs.Opening.{closedAt, countShown}
+use Rattle.rules.specs.Lawful.{shows}
 use Rattle.cells.specs.Ground.{Valued, Below}
 use Rattle.cells.proofs.Words.{stack-push, stack-length}
 use Rattle.cells.proofs.Grid.{cell-back}

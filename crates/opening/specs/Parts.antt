@@ -7,8 +7,8 @@ use lib.ListN.{length, getD}
 use lib.IntN.{ℤ}
 use Rattle.rules.specs.Words.{stackOf}
 use Rattle.rules.specs.Lent.{workRoom}
-use Rattle.rules.specs.Opening.{Opened}
-use Rattle.rules.specs.Lawful.{countShown, shows}
+use Rattle.rules.specs.Opening.{Opened, countShown}
+use Rattle.rules.specs.Lawful.{shows}
 use Rattle.cells.specs.Ground.{Sized, Valued, Zeros}
 use Rattle.opening.specs.Quick.{Front, front, quick}
 

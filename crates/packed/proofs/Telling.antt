@@ -19,7 +19,7 @@ lineBy n ns shown bits = decimal n ++ (spaced ns ++ (spaced shown ++ (spaced bit
 bytes-length : (s : List ℕ) → ((i : ℕ) → getD s i 0 < 256) → length (spaced s) ≤ 4 * length s
 bytes-length s b = spaced-length 3 s (few-below 2 s (below-all 1000 s (λ i. let h = b i in omega arith)))
 
-line-by-length : (n : ℕ) (ns shown bits : List ℕ) → length ns ≡ 22 → ((i : ℕ) → getD shown i 0 < 256) → ((i : ℕ) → getD bits i 0 < 256)
+line-by-length : (n : ℕ) (ns shown bits : List ℕ) → length ns ≡ 23 → ((i : ℕ) → getD shown i 0 < 256) → ((i : ℕ) → getD bits i 0 < 256)
     → length (lineBy n ns shown bits) ≤ outcomeRoom (length shown) (length bits)
 line-by-length n ns shown bits e hs hb =
     let d = digits-most 10 n [] in

@@ -9,11 +9,11 @@ use Rattle.rules.specs.Board.{rowByte, columnByte}
 use Rattle.rules.specs.Calls.{Outcome}
 use Rattle.rules.specs.Printout.{decimal, spaced, nineCounts}
 
--- a position's numbers, in the order that they are packed: the rules last
+-- a position's numbers, in the order that they are packed: the rules and the safe cells still closed last
 abbrev pub numbersOf : Position → List ℕ
 numbersOf p =
     p .settings .rows ∷ p .settings .columns ∷ p .settings .mode ∷ bit (p .settings .question) ∷ gameNumber (p .game)
-    ∷ mouseNumber (p .mouse) ∷ bit (p .middle) ∷ p .preflags ∷ p .events ∷ (nineCounts p ++ (p .settings .rules ∷ []))
+    ∷ mouseNumber (p .mouse) ∷ bit (p .middle) ∷ p .preflags ∷ p .events ∷ (nineCounts p ++ (p .settings .rules ∷ p .counts .unopened ∷ []))
 
 -- what follows an answer's own number: its place, its value, which is what a step opened, and its position
 abbrev pub answerNumbers : Answer → List ℕ
@@ -26,6 +26,6 @@ outcomeLine a shown bits =
 abbrev pub lineAfter : Outcome → List ℕ
 lineAfter o = outcomeLine (o .answer) (o .shown) (o .bits)
 
--- its room: twenty-three numbers of at most ten digits, and four bytes for each cell and each byte of bits
+-- its room: twenty-four numbers of at most ten digits, and four bytes for each cell and each byte of bits
 abbrev pub outcomeRoom : ℕ → ℕ → ℕ
-outcomeRoom cells bytes = 253 + (4 * cells + 4 * bytes)
+outcomeRoom cells bytes = 264 + (4 * cells + 4 * bytes)

@@ -1,6 +1,6 @@
 -- A packed step: where the numbers of its position stand in its head of 80 bytes, and what a byte of its mine board is. Bytes 51 to 53 are the
--- event's code, row and column, 55 says which call it is for; 56 to 71 are reserved, 0 and not read; from 72 on stand the lengths of the mine board,
--- the shown board, the bits and the work.
+-- event's code, row and column, 54 the rules, 55 says which call it is for, 56 to 59 the safe cells still closed; 60 to 71 are reserved, 0 and not read;
+-- from 72 on stand the lengths of the mine board, the shown board, the bits and the work.
 use mathlib.Core.Bool.{Bool, not}
 use mathlib.Core.List.{List, map}
 use Prim.Native.Nat.{ℕ, _+_, _*_, _-_}
@@ -30,7 +30,7 @@ settingsIn s = record { rows = getD s 0 0; columns = getD s 1 0; mode = getD s 2
 
 abbrev pub countsIn : List ℕ → Counts
 countsIn s =
-    record { left = fourAt s 15; right = fourAt s 19; double = fourAt s 23; lce = fourAt s 27; dce = fourAt s 35; flag = fourAt s 39 }
+    record { left = fourAt s 15; right = fourAt s 19; double = fourAt s 23; lce = fourAt s 27; dce = fourAt s 35; flag = fourAt s 39; unopened = fourAt s 56 }
 
 abbrev pub secretsIn : List ℕ → Secrets
 secretsIn s = record { rce = fourAt s 31; «solved_left» = fourAt s 43; «solved_chord» = fourAt s 47 }

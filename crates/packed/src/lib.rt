@@ -64,6 +64,7 @@ fn counts_in(s: &Head) -> Counts
         lce: four_at(s, 27),
         dce: four_at(s, 35),
         flag: four_at(s, 39),
+        unopened: four_at(s, 56),
     }
 }
 
@@ -122,8 +123,8 @@ pub fn sign_all(bytes: &[u8], mines: &mut [i8])
 
 // ---- the line of an outcome ------------------------------------------------------------------------------------------------------------
 
-// The two numbers of an answer's place, its value, and the nineteen of its position.
-fn numbers(a: Answer) -> [u32; 22]
+// The two numbers of an answer's place, its value, and the twenty of its position.
+fn numbers(a: Answer) -> [u32; 23]
     ensures { λ r. ⌜ r ≡ answerNumbers a ⌝ }
 {
     let x = a.place;
@@ -156,6 +157,7 @@ fn numbers(a: Answer) -> [u32; 22]
         k.solved_left,
         k.solved_chord,
         writing::wide(s.rules),
+        c.unopened,
     ]
 }
 

@@ -1,5 +1,5 @@
 -- Which passes follow a flag and a chord.
-use mathlib.Core.Path.{_≡_, refl, ap, sym, _∙_}
+use mathlib.Core.Path.{_≡_, ap, sym, _∙_}
 use mathlib.Core.Bool.{true, false}
 use mathlib.Core.List.{List}
 use Prim.Native.Nat.{ℕ}
@@ -7,14 +7,10 @@ use lib.IntN.{ℤ}
 use Rattle.rules.specs.declared.Position.{Position}
 use Rattle.rules.specs.States.{isPlaying}
 use Rattle.rules.specs.Clicks.{Desk, desk}
-use Rattle.rules.specs.Passes.{Scan, flagPass, chordPass, bothPass, modeBoth, modeFlag, modeChord, passesAfterFlag, passesAfterChord}
+use Rattle.rules.specs.Passes.{flagPass, chordPass, bothPass, modeBoth, modeFlag, modeChord, passesAfterFlag, passesAfterChord}
 use Rattle.chording.specs.declared.Scanned.{Scanned}
 use Rattle.chording.specs.Scanning.{Scans}
-use Rattle.cells.specs.Contracts.{Ticked}
-use Rattle.opening.proofs.Ticking.{ticked-none}
-use Rattle.passes.specs.declared.Ran.{Ran}
-use Rattle.passes.specs.Passing.{Runs}
-use Rattle.passes.proofs.Turns.{flag-ticked}
+use Rattle.cells.specs.Contracts.{Leaves}
 
 module _ (B : List ℤ) (d : Desk) where
   pub flag-over : isPlaying (d .position .game) ≡ false → passesAfterFlag B d ≡ d
@@ -49,22 +45,7 @@ module _ (B : List ℤ) (d : Desk) where
   unfolding passesAfterChord
   chord-none e b m = simp (e, b, m)
 
--- none follows
-pub runs-none : {f : Desk → Desk} {p : Position} {shown bits w : List ℕ} {r : Ran} → r ≡ record { position = p; opened = 0 } → f (desk p shown bits) ≡ desk p shown bits
-    → Runs f p shown bits w r shown bits w
-runs-none {shown = shown} h e = rw h (record { outcome = sym e; same = refl; opened = ticked-none 0 shown })
-
--- others do
-pub runs-by : {f g : Desk → Desk} {p : Position} {shown bits w : List ℕ} {r : Ran} {shown′ bits′ w′ : List ℕ} → Runs g p shown bits w r shown′ bits′ w′ → f (desk p shown bits) ≡ g (desk p shown bits)
-    → Runs f p shown bits w r shown′ bits′ w′
-runs-by h e = record { outcome = h .outcome ∙ sym e; same = h .same; opened = h .opened }
-
-module _ (B : List ℤ) (p : Position) (shown bits w : List ℕ) where
-  -- the flag pass opens nothing
-  pub runs-flag : (q : Position) (shown′ bits′ : List ℕ) (r : Ran) → desk q shown′ bits′ ≡ flagPass B (desk p shown bits) → r ≡ record { position = q; opened = 0 }
-      → Runs (flagPass B) p shown bits w r shown′ bits′ w
-  runs-flag q shown′ bits′ r l h = rw h (record { outcome = l; same = refl; opened = flag-ticked B (desk p shown bits) (desk q shown′ bits′) l })
-
-  pub runs-scan : (s : Scanned) (shown′ w′ : List ℕ) → Scans (λ b. chordPass B (desk p shown b)) w s shown′ w′ × Ticked 0 shown (s .opened) shown′
-      → Runs (λ d. chordPass B d .desk) p shown bits w (record { position = s .position; opened = s .opened }) shown′ bits w′
-  runs-scan s shown′ w′ c = record { outcome = ap (λ (x : Scan). x .desk) (c .0 bits .outcome); same = c .0 bits .same; opened = c .1 }
+-- the chord pass follows
+pub leaves-scan : (B : List ℤ) (p : Position) (shown bits w : List ℕ) (s : Scanned) (shown′ w′ : List ℕ) (y : Desk) → Scans (λ b. chordPass B (desk p shown b)) w s shown′ w′
+    → y ≡ chordPass B (desk p shown bits) .desk → Leaves (desk (s .position) shown′ bits) y w w′
+leaves-scan B p shown bits w s shown′ w′ y c e = record { outcome = ap (λ x. x .desk) (c bits .outcome) ∙ sym e; same = c bits .same }

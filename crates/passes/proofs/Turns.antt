@@ -15,12 +15,11 @@ use Rattle.rules.specs.Passes.{Round, foundAny, flagPass, chordPass, chordChang
 use Rattle.cells.specs.Ground.{Valued}
 use Rattle.cells.proofs.Words.{and-left, Looping, left, looping-start, looping-turn, looping-less, looping-done}
 use Rattle.opening.proofs.Cost.{closed-most}
-use Rattle.opening.proofs.Ticking.{ticked-then, ticked-sum, ticked-most}
-use Rattle.cells.specs.Contracts.{closedIn, Ticked, LaidAt, PassRoomAt, Bytes, Prepared, Leaves}
+use Rattle.cells.specs.Contracts.{closedIn, LaidAt, PassRoomAt, Bytes, Prepared, Leaves}
 use Rattle.chording.specs.declared.Scanned.{Scanned}
 use Rattle.passes.specs.declared.Passed.{Passed}
 use Rattle.chording.specs.Scanning.{Scans}
-use Rattle.passes.specs.Passing.{round, going, Runs}
+use Rattle.passes.specs.Passing.{round, going}
 use Rattle.flagging.specs.Scan.{Flaggable}
 use Rattle.flagging.proofs.Flagging.{Even, even-all}
 use Rattle.flagging.proofs.OneScan.{found, flag-pass-once}
@@ -40,10 +39,6 @@ even-sits B st d d′ e s =
 -- the flag pass: flags and closed cells together stay as many
 pub even-pass : (B : List ℤ) (d : Desk) → Even B d (flagPass B d)
 even-pass B d = subst⁻¹ (λ (x : Desk). Even B d x) (flag-pass-once B d) (even-all B (found B d) d)
-
--- and no cell opens
-pub flag-ticked : (B : List ℤ) (d d₁ : Desk) → d₁ ≡ flagPass B d → Ticked 0 (d .shown) 0 (d₁ .shown)
-flag-ticked B d d₁ f = subst⁻¹ (λ (x : Desk). Ticked 0 (d .shown) 0 (x .shown)) f (record { counted = omega (arith, even-pass B d .opens) })
 
 -- a desk of the same settings with as many bytes of bits
 pub record Like (st : Settings) (n : ℕ) (d : Desk) : Type 0 where
@@ -109,26 +104,22 @@ module _ (B : List ℤ) (d d₁ : Desk) (w : List ℕ) (p : Prepared B d w) (f :
       let q = like-prepared B d d₁ w w p l refl in
       (q .laid, q .room)
 
-  pub turn-is : (s : Scanned) (shown w′ : List ℕ) (r : Passed) → Scans (λ bits. chordPass B (desk (d₁ .position) (d₁ .shown) bits)) w s shown w′ × Ticked 0 (d₁ .shown) (s .opened) shown
-      → r .position ≡ s .position → r .any ≡ (s .ever && isPlaying (s .position .game)) → r .opened ≡ s .opened
-      → Leaves (round r shown (d₁ .bits)) (bothRound B (going d)) w w′ × Ticked 0 (d .shown) (r .opened) shown
+  pub turn-is : (s : Scanned) (shown w′ : List ℕ) (r : Passed) → Scans (λ bits. chordPass B (desk (d₁ .position) (d₁ .shown) bits)) w s shown w′
+      → r .position ≡ s .position → r .any ≡ (s .ever && isPlaying (s .position .game)) → Leaves (round r shown (d₁ .bits)) (bothRound B (going d)) w w′
   unfolding bothRound
-  turn-is s shown w′ r c q e n = (
-    record {
-      outcome =
-          ap₂ (λ (x : Position) (b : Bool). turned (desk x shown (d₁ .bits)) b) q e ∙ ap chordChanged (c .0 (d₁ .bits) .outcome)
-          ∙ ap (λ (x : Desk). chordChanged (chordPass B x)) f;
-      same = c .0 (d₁ .bits) .same;
-    },
-    rw n (ticked-then (flag-ticked B d d₁ f) (c .1)),
-  )
+  turn-is s shown w′ r c q e =
+      record {
+        outcome =
+            ap₂ (λ (x : Position) (b : Bool). turned (desk x shown (d₁ .bits)) b) q e ∙ ap chordChanged (c (d₁ .bits) .outcome)
+            ∙ ap (λ (x : Desk). chordChanged (chordPass B x)) f;
+        same = c (d₁ .bits) .same;
+      }
 
 -- ---- the turns -----------------------------------------------------------------------------------------------------------------------------
 
-pub record Turning (B : List ℤ) (d₀ : Desk) (w₀ : List ℕ) (d : Desk) (w : List ℕ) (opened : ℕ) (go : Bool) : Type 0 where
+pub record Turning (B : List ℤ) (d₀ : Desk) (w₀ : List ℕ) (d : Desk) (w : List ℕ) (go : Bool) : Type 0 where
   pub loop :
       Looping (bothRound B) foundAny size (On (d₀ .position .settings) (length (d₀ .bits))) (rounds (bothRound B) foundAny (suc (cellsOf d₀)) (going d₀)) go (turned d go)
-  pub ticked : Ticked 0 (d₀ .shown) opened (d .shown)
   pub back : w ≡ w₀
 
 abbrev pub toGo : List ℤ → Desk → Desk → Bool → ℕ
@@ -147,43 +138,36 @@ module _ (B : List ℤ) (d₀ : Desk) (w₀ : List ℕ) (p : Prepared B d₀ w�
   less : (r : Round) → Fit r → foundAny (bothRound B r) ≡ true → size (bothRound B r) < size r
   less = turn-less B (p .laid .fits .mined .valued) (d₀ .position .settings) (length (d₀ .bits))
 
-  pub turning-start : Turning B d₀ w₀ d₀ w₀ 0 true
+  pub turning-start : Turning B d₀ w₀ d₀ w₀ true
   turning-start =
       let h = closed-most (d₀ .shown) in
       record {
         loop = looping-start (bothRound B) foundAny size Fit keep less (suc (cellsOf d₀)) (going d₀) (like-start B d₀ w₀ p) (omega (arith, p .laid .fits .board));
-        ticked = record { counted = refl };
         back = refl;
       }
 
-  module _ (d : Desk) (w : List ℕ) (n : ℕ) (go : Bool) (g : Turning B d₀ w₀ d w n go) where
+  module _ (d : Desk) (w : List ℕ) (go : Bool) (g : Turning B d₀ w₀ d w go) where
     pub turning-asks : Prepared B d w
     turning-asks = like-prepared B d₀ d w₀ w p (g .loop .fine) (g .back)
 
-    -- the sum is at most the cells
-    pub turning-room : {k : ℕ} {shown : List ℕ} → Ticked 0 (d .shown) k shown → n + k ≤ length shown
-    turning-room t = ticked-most (ticked-sum (g .ticked) t)
-
-    module _ (e : go ≡ true) (d′ : Desk) (w′ : List ℕ) (k : ℕ) (go′ : Bool) (l : Leaves (turned d′ go′) (bothRound B (going d)) w w′ × Ticked 0 (d .shown) k (d′ .shown)) where
+    module _ (e : go ≡ true) (d′ : Desk) (w′ : List ℕ) (go′ : Bool) (l : Leaves (turned d′ go′) (bothRound B (going d)) w w′) where
       step : turned d′ go′ ≡ bothRound B (turned d go)
-      step = l .0 .outcome ∙ ap (λ (b : Bool). bothRound B (turned d b)) (sym e)
+      step = l .outcome ∙ ap (λ (b : Bool). bothRound B (turned d b)) (sym e)
 
-      pub turning-turn : Turning B d₀ w₀ d′ w′ (n + k) go′
+      pub turning-turn : Turning B d₀ w₀ d′ w′ go′
       turning-turn =
           record {
             loop = looping-turn (bothRound B) foundAny size Fit keep less total go (turned d go) (g .loop) e go′ (turned d′ go′) step refl;
-            ticked = ticked-sum (g .ticked) (l .1);
-            back = l .0 .same ∙ g .back;
+            back = l .same ∙ g .back;
           }
 
       pub turning-less : toGo B d₀ d′ go′ < toGo B d₀ d go
       turning-less = looping-less (bothRound B) foundAny size Fit keep less total go (turned d go) (g .loop) e go′ (turned d′ go′) step refl
 
-    pub turning-done : go ≡ false → Runs (bothPass B) (d₀ .position) (d₀ .shown) (d₀ .bits) w₀ (record { position = d .position; opened = n }) (d .shown) (d .bits) w
+    pub turning-done : go ≡ false → Leaves d (bothPass B d₀) w₀ w
     unfolding bothPass
     turning-done h =
         record {
           outcome = ap (λ (r : Round). r .desk) (looping-done (bothRound B) foundAny size Fit keep less total go (turned d go) (g .loop) h);
           same = g .back;
-          opened = g .ticked;
         }

@@ -5,21 +5,14 @@ ghost use mathlib.Core.Bool.{_||_};
 ghost use lib.Dec.{eqb};
 ghost use Rattle.rules.specs.Clicks.{desk};
 ghost use Rattle.rules.specs.Passes.{bothRound, bothPass, passesAfterFlag, passesAfterChord};
-ghost use Rattle.cells.specs.Contracts.{Ticked, Prepared, Leaves};
-ghost use Rattle.passes.specs.Passing.{round, going, Runs};
+ghost use Rattle.cells.specs.Contracts.{Prepared, Leaves};
+ghost use Rattle.passes.specs.Passing.{round, going};
 use rules::Position;
 
-// A position, whether the chord pass changed something while the game goes on, and how many cells it opened.
+// A position, and whether the chord pass changed something while the game goes on.
 pub struct Passed {
     pub position: Position,
     pub any: bool,
-    pub opened: u32,
-}
-
-// The position that passes leave, and how many cells they opened.
-pub struct Ran {
-    pub position: Position,
-    pub opened: u32,
 }
 
 // Flags first, then chords.
@@ -31,17 +24,13 @@ fn both_round(
     work: &mut [u16],
 ) -> Passed
     requires { ⌜ Prepared (now mines) (desk p (now shown) (now bits)) (now work) ⌝ }
-    ensures { λ r. ⌜ Leaves (round r (now (shown .exit)) (now (bits .exit))) (bothRound (now (mines .entry)) (going (desk p (now (shown .entry)) (now (bits .entry))))) (now (work .entry)) (now (work .exit)) × Ticked 0 (now (shown .entry)) (r .opened) (now (shown .exit)) ⌝ }
+    ensures { λ r. ⌜ Leaves (round r (now (shown .exit)) (now (bits .exit))) (bothRound (now (mines .entry)) (going (desk p (now (shown .entry)) (now (bits .entry))))) (now (work .entry)) (now (work .exit)) ⌝ }
 {
     let q = flagging::flag_pass(p, mines, shown, bits);
     let s = chording::chord_pass(q, mines, shown, work);
     let any = chording::goes_on(s.ever, s.position);
     let position = s.position;
-    Passed {
-        position,
-        any,
-        opened: s.opened,
-    }
+    Passed { position, any }
 }
 
 // Both by turns, until the chord pass changes nothing or the game is over.
@@ -51,33 +40,18 @@ pub fn both_pass(
     shown: &mut [u8],
     bits: &mut [u8],
     work: &mut [u16],
-) -> Ran
+) -> Position
     requires { ⌜ Prepared (now mines) (desk p (now shown) (now bits)) (now work) ⌝ }
-    ensures { λ r. ⌜ Runs (bothPass (now (mines .entry))) p (now (shown .entry)) (now (bits .entry)) (now (work .entry)) r (now (shown .exit)) (now (bits .exit)) (now (work .exit)) ⌝ }
+    ensures { λ r. ⌜ Leaves (desk r (now (shown .exit)) (now (bits .exit))) (bothPass (now (mines .entry)) (desk p (now (shown .entry)) (now (bits .entry)))) (now (work .entry)) (now (work .exit)) ⌝ }
 {
     let mut q = p;
-    let mut opened = 0;
     let mut go = true;
     while go {
         let r = both_round(q, mines, shown, bits, work);
         q = r.position;
-        opened += r.opened;
         go = r.any;
     }
-    Ran {
-        position: q,
-        opened,
-    }
-}
-
-// A position that no pass opened anything on.
-fn shut(position: Position) -> Ran
-    ensures { λ r. ⌜ r ≡ record { position = position; opened = 0 } ⌝ }
-{
-    Ran {
-        position,
-        opened: 0,
-    }
+    q
 }
 
 // One of two modes.
@@ -97,23 +71,22 @@ pub fn passes_after_flag(
     shown: &mut [u8],
     bits: &mut [u8],
     work: &mut [u16],
-) -> Ran
+) -> Position
     requires { ⌜ Prepared (now mines) (desk p (now shown) (now bits)) (now work) ⌝ }
-    ensures { λ r. ⌜ Runs (passesAfterFlag (now (mines .entry))) p (now (shown .entry)) (now (bits .entry)) (now (work .entry)) r (now (shown .exit)) (now (bits .exit)) (now (work .exit)) ⌝ }
+    ensures { λ r. ⌜ Leaves (desk r (now (shown .exit)) (now (bits .exit))) (passesAfterFlag (now (mines .entry)) (desk p (now (shown .entry)) (now (bits .entry)))) (now (work .entry)) (now (work .exit)) ⌝ }
 {
     let g = p.game;
     if !chording::playing(g) {
-        return shut(p);
+        return p;
     }
     let mode = p.settings.mode;
     if one_of(mode, 13, 16) {
         return both_pass(p, mines, shown, bits, work);
     }
     if one_of(mode, 12, 15) {
-        let q = flagging::flag_pass(p, mines, shown, bits);
-        return shut(q);
+        return flagging::flag_pass(p, mines, shown, bits);
     }
-    shut(p)
+    p
 }
 
 // After any chord by hand: 13 and 16 run both, 11 and 14 the chord pass alone.
@@ -123,13 +96,13 @@ pub fn passes_after_chord(
     shown: &mut [u8],
     bits: &mut [u8],
     work: &mut [u16],
-) -> Ran
+) -> Position
     requires { ⌜ Prepared (now mines) (desk p (now shown) (now bits)) (now work) ⌝ }
-    ensures { λ r. ⌜ Runs (passesAfterChord (now (mines .entry))) p (now (shown .entry)) (now (bits .entry)) (now (work .entry)) r (now (shown .exit)) (now (bits .exit)) (now (work .exit)) ⌝ }
+    ensures { λ r. ⌜ Leaves (desk r (now (shown .exit)) (now (bits .exit))) (passesAfterChord (now (mines .entry)) (desk p (now (shown .entry)) (now (bits .entry)))) (now (work .entry)) (now (work .exit)) ⌝ }
 {
     let g = p.game;
     if !chording::playing(g) {
-        return shut(p);
+        return p;
     }
     let mode = p.settings.mode;
     if one_of(mode, 13, 16) {
@@ -137,11 +110,7 @@ pub fn passes_after_chord(
     }
     if one_of(mode, 11, 14) {
         let s = chording::chord_pass(p, mines, shown, work);
-        let position = s.position;
-        return Ran {
-            position,
-            opened: s.opened,
-        };
+        return s.position;
     }
-    shut(p)
+    p
 }

@@ -31,7 +31,6 @@ fn play_rc(
         let q = mouse::moved(2, p);
         return Played {
             answer: 0,
-            opened: 0,
             position: q,
         };
     }

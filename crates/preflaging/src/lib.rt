@@ -35,7 +35,6 @@ fn pre_left(
         let q = clicks::add_left(p);
         return Played {
             answer: 0,
-            opened: 0,
             position: q,
         };
     }
@@ -43,14 +42,12 @@ fn pre_left(
         let q = preflags::clear(p, &mut *bits);
         return Played {
             answer: 0,
-            opened: 0,
             position: q,
         };
     }
     let q = clicks::add_left(p);
     Played {
         answer: 0,
-        opened: 0,
         position: q,
     }
 }

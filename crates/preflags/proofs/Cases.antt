@@ -1,5 +1,5 @@
 -- One equation for each case of a pre-flag and of the right button in PreFlaging: see buttons' Cases.
-use mathlib.Core.Path.{_≡_, refl, ap, _∙_, subst⁻¹}
+use mathlib.Core.Path.{_≡_, ap, _∙_}
 use mathlib.Core.Bool.{true, false, not, _&&_, Bool}
 use mathlib.Core.List.{List}
 use Prim.Native.Nat.{ℕ, _+_, _-_}
@@ -14,14 +14,11 @@ use Rattle.rules.specs.declared.Pointer.the-variants.{Cell, Off}
 use Rattle.rules.specs.declared.MouseState.the-variants.{UpDownNotFlag}
 use Rattle.rules.specs.States.{withRight, withMouse, withPreflags, withGame, mouseNumber}
 use Rattle.rules.specs.Grid.{cellOf}
-use Rattle.rules.specs.Clicks.{Desk, desk, done}
+use Rattle.rules.specs.Clicks.{desk, done}
 use Rattle.rules.specs.Passes.{rightClick}
-use Rattle.rules.specs.Lawful.{isOpen}
 use Rattle.rules.specs.Mouse.{moved}
 use Rattle.rules.specs.Step.{cleared, clearedIf, lastTakenBack, preCell, preRight, rightAt, preFlag, backIf, backToReady, preRc, onCell, move}
 use Rattle.rules.specs.declared.GameState.the-variants.{PreFlaging, Ready}
-use Rattle.cells.specs.Contracts.{Ticked}
-use Rattle.opening.proofs.Ticking.{ticked-shut}
 
 module _ (B : List ℤ) (x : Pointer) (p q : Position) (shown bits : List ℕ) where
   pub pre-flag-right : (y : Position) → y ≡ withPreflags p (p .preflags + 1) → q ≡ withGame y PreFlaging → preFlag B x (desk p shown bits) ≡ rightAt B x (desk q shown bits)
@@ -61,10 +58,6 @@ module _ (B : List ℤ) (x : Pointer) (p q : Position) (shown bits : List ℕ) w
 
     pub moves-back-no : backToReady x (desk p shown bits) ≡ false → q ≡ moved e p → done 0 (desk q shown bits) ≡ done 0 (backIf (backToReady x (desk p shown bits)) (move e (desk p shown bits)))
     moves-back-no t h = rw (t, h)
-
--- taking the last pre-flag back opens nothing
-pub last-ticked : (i : ℕ) (p q : Position) (shown bits shown′ bits′ : List ℕ) → getD shown i 0 ≡ 11 → desk q shown′ bits′ ≡ lastTakenBack i (desk p shown bits) → Ticked 0 shown 0 shown′
-last-ticked i p q shown bits shown′ bits′ e h = subst⁻¹ (λ (d : Desk). Ticked 0 shown 0 (d .shown)) h (ticked-shut 0 shown i 10 (ap isOpen e) refl)
 
 module _ (B : List ℤ) (i : ℕ) (p q : Position) (shown bits : List ℕ) where
   pub pre-cell-more : getD shown i 0 ≡ 10 → q ≡ withPreflags p (p .preflags + 1) → preCell B i (desk p shown bits) ≡ rightClick B i (desk q shown bits)

@@ -66,7 +66,6 @@ fn pre_question(
         let q = clear(y, &mut *bits);
         return Played {
             answer: o.answer,
-            opened: o.opened,
             position: q,
         };
     }
@@ -107,7 +106,6 @@ fn pre_cell(
             let q = take_last_back(p, i, &mut *shown, &mut *bits);
             return Played {
                 answer: 0,
-                opened: 0,
                 position: q,
             };
         }
@@ -143,7 +141,6 @@ fn pre_right(
             let z = marking::add_right(q);
             Played {
                 answer: 0,
-                opened: 0,
                 position: z,
             }
         }
@@ -188,20 +185,18 @@ fn back_to_ready(p: Position, x: Pointer) -> bool
 // The mouse state moves on; back to Ready without clearing where that is due.
 pub fn moves_back(e: usize, p: Position, x: Pointer) -> Played
     requires { ⌜ e < 8 ⌝ }
-    ensures { λ r. ⌜ ((shown bits : List ℕ) → done (r .answer) (desk (r .position) shown bits) ≡ done 0 (backIf (backToReady x (desk p shown bits)) (move e (desk p shown bits)))) × (r .opened ≡ 0) ⌝ }
+    ensures { λ r. ⌜ ((shown bits : List ℕ) → done (r .answer) (desk (r .position) shown bits) ≡ done 0 (backIf (backToReady x (desk p shown bits)) (move e (desk p shown bits)))) ⌝ }
 {
     let q = mouse::moved(e, p);
     if back_to_ready(p, x) {
         let z = q.with_game(GameState::Ready);
         return Played {
             answer: 0,
-            opened: 0,
             position: z,
         };
     }
     Played {
         answer: 0,
-        opened: 0,
         position: q,
     }
 }

@@ -1,5 +1,5 @@
 -- The game of an accepted book at its beginning: the board that its mine list gives, and its lawful desk.
-use mathlib.Core.Path.{_≡_, _∙_, ap, sym, subst}
+use mathlib.Core.Path.{_≡_, _∙_, ap, sym, subst, subst⁻¹}
 use mathlib.Core.Bool.{true}
 use mathlib.Core.List.{List, _++_}
 use Prim.Native.Nat.{ℕ, _+_, _*_}
@@ -11,10 +11,11 @@ use Rattle.rules.specs.declared.Position.{Position}
 use Rattle.rules.specs.Board.{numbered, numberedAt, numberingRefusal}
 use Rattle.rules.specs.Lent.{workRoom}
 use Rattle.rules.specs.Clicks.{desk}
-use Rattle.rules.specs.Calls.{Numbered, numberingOf, cellsIn}
+use Rattle.rules.specs.Calls.{Numbered, numberingOf, cellsIn, freshDesk}
 use Rattle.rules.specs.Book.{bookOf, minesOf, partOf}
 use Rattle.rules.specs.Printout.{bookBoard, bookDesk}
-use Rattle.keep.specs.Kept.{LawfulAt}
+use Rattle.cells.specs.Ground.{Mined}
+use Rattle.keep.specs.Kept.{Accepted, LawfulAt}
 use Rattle.cells.proofs.Face.{values-valued}
 use Rattle.keep.proofs.Lawful.{board-accepted}
 use Rattle.keep.proofs.Fresh.{fresh-lawful}
@@ -22,7 +23,7 @@ use Rattle.cells.proofs.Words.{inOrder-length}
 use Rattle.numbering.proofs.Numbering.{numbered-accepted}
 use Rattle.book.proofs.Accepting.{mines-part}
 use Rattle.book.proofs.Book.{accepted-numbers}
-use Rattle.printing.specs.Boards.{Fit, Begun}
+use Rattle.printing.specs.Boards.{Begun}
 
 numbered-cells : (R C : ℕ) (ms : List ℕ) → length (numbered R C ms) ≡ R * C
 unfolding numbered
@@ -39,24 +40,38 @@ module _ (s : List ℕ) (b : Book) (e : b ≡ bookOf s) (z : b .number ≡ 0) wh
   unfolding numberingOf
   made B l = let q = numbers B l in simp (eq-eqb _ _ q)
 
-  pub begun : {p : Position} {mines mines′ : List ℤ} {shown bits work list shown′ bits′ work′ : List ℕ} {n cells : ℕ} → Fit (b .settings) mines shown bits work
-      → list ≡ partOf s (b .«mines_at») (2 * b .mines) → record { number = n; board = mines′ } ≡ numberingOf (b .settings .rows) (b .settings .columns) list mines
-      → cells ≡ cellsIn (b .settings) → work′ ≡ replicate (8 * cells + 8) 0 ++ drop (8 * cells + 8) work → desk p shown′ bits′ ≡ bookDesk b
-      → Begun s b work p mines′ shown′ bits′ work′
-  begun {mines = mines} {work = work} f l h k w d =
-      record {
-        board =
-            ap (λ (x : Numbered). x .board) h
-            ∙ ap (λ (ms : List ℕ). numberingOf (b .settings .rows) (b .settings .columns) ms mines .board) (l ∙ mines-part s b e ∙ ap (minesOf s) (sym e))
-            ∙ made mines (f .mine);
-        fresh = d;
-        blank = w ∙ ap (λ (n : ℕ). replicate (workRoom n) 0 ++ drop (workRoom n) work) k;
-      }
+  long : length (bookBoard s b) ≡ cellsIn (b .settings)
+  long = numbered-cells (b .settings .rows) (b .settings .columns) (minesOf s b)
+
+  passed : Accepted (b .settings .rows) (b .settings .columns) true (bookBoard s b)
+  passed =
+      board-accepted (b .settings .rows) (b .settings .columns) true (bookBoard s b)
+      (numbered-accepted (b .settings .rows) (b .settings .columns) (minesOf s b) (bookBoard s b) (numbers (bookBoard s b) long))
+
+  -- the board is of its size
+  mined : Mined (bookBoard s b) (b .settings .rows) (b .settings .columns)
+  mined = record { sized = passed .sized; long = long; valued = values-valued (bookBoard s b) (passed .values) }
+
+  module _ (mines : List ℤ) {mines′ : List ℤ} {list : List ℕ} {n : ℕ} (fits : length mines ≡ cellsIn (b .settings)) (l : list ≡ partOf s (b .«mines_at») (2 * b .mines))
+      (h : record { number = n; board = mines′ } ≡ numberingOf (b .settings .rows) (b .settings .columns) list mines) where
+    begun-board : mines′ ≡ bookBoard s b
+    begun-board =
+        ap (λ (x : Numbered). x .board) h
+        ∙ ap (λ (ms : List ℕ). numberingOf (b .settings .rows) (b .settings .columns) ms mines .board) (l ∙ mines-part s b e ∙ ap (minesOf s) (sym e))
+        ∙ made mines fits
+
+    pub begun-mined : Mined mines′ (b .settings .rows) (b .settings .columns)
+    begun-mined = subst⁻¹ (λ (B : List ℤ). Mined B (b .settings .rows) (b .settings .columns)) begun-board mined
+
+    pub begun : {p : Position} {work shown′ bits′ work′ : List ℕ} {cells : ℕ} → cells ≡ cellsIn (b .settings)
+        → work′ ≡ replicate (8 * cells + 8) 0 ++ drop (8 * cells + 8) work → desk p shown′ bits′ ≡ freshDesk (b .settings) mines′
+        → Begun s b work p mines′ shown′ bits′ work′
+    begun {work = work} k w d = record {
+      board = begun-board;
+      fresh = d ∙ ap (freshDesk (b .settings)) begun-board;
+      blank = w ∙ ap (λ (n : ℕ). replicate (workRoom n) 0 ++ drop (workRoom n) work) k;
+    }
 
   -- its fresh desk is lawful
-  pub book-lawful : LawfulAt (bookBoard s b) (bookDesk b)
-  book-lawful =
-      let long : length (bookBoard s b) ≡ cellsIn (b .settings) = numbered-cells (b .settings .rows) (b .settings .columns) (minesOf s b) in
-      let a = board-accepted (b .settings .rows) (b .settings .columns) true (bookBoard s b)
-      (numbered-accepted (b .settings .rows) (b .settings .columns) (minesOf s b) (bookBoard s b) (numbers (bookBoard s b) long)) in
-      fresh-lawful (bookBoard s b) (b .settings) (record { sized = a .sized; long = long; valued = values-valued (bookBoard s b) (a .values) }) (a .numbers)
+  pub book-lawful : LawfulAt (bookBoard s b) (bookDesk s b)
+  book-lawful = fresh-lawful (bookBoard s b) (b .settings) mined (passed .numbers)

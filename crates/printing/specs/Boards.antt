@@ -23,7 +23,7 @@ pub record Fit (s : Settings) (mines : List ℤ) (shown bits work : List ℕ) : 
 -- the position and the boards of a game that nobody has touched
 pub record Begun (s : List ℕ) (b : Book) (work : List ℕ) (p : Position) (mines : List ℤ) (shown bits work′ : List ℕ) : Type 0 where
   pub board : mines ≡ bookBoard s b
-  pub fresh : desk p shown bits ≡ bookDesk b
+  pub fresh : desk p shown bits ≡ bookDesk s b
   pub blank : work′ ≡ replicate (workRoom (cellsIn (b .settings))) 0 ++ drop (workRoom (cellsIn (b .settings))) work
 
 -- the text was written, and the work came back as it was lent

@@ -35,7 +35,7 @@ pub fn begin(
     numbering::number_mines(settings.rows, settings.columns, list, &mut *mines);
     let cells = boards::cell_count(settings.rows, settings.columns);
     cells::clear(&mut *work, 8 * cells + 8);
-    boards::fresh_desk(settings, &mut *shown, &mut *bits)
+    boards::fresh_desk(settings, &*mines, &mut *shown, &mut *bits)
 }
 
 // The line of a play, accepted or refused.

@@ -76,15 +76,15 @@ module _ (p : Position) where
     unfolding bitsLawful
     bits-same = refl
 
-    counts-same : countsLawful (desk spoiled shown bits) ≡ countsLawful (desk p shown bits)
+    counts-same : countsLawful B (desk spoiled shown bits) ≡ countsLawful B (desk p shown bits)
     unfolding countsLawful
     counts-same = simp within-same
 
-    right-allowed : countsLawful (desk p shown bits) ≡ true → leb (p .counts .right) (p .events) ≡ true
+    right-allowed : countsLawful B (desk p shown bits) ≡ true → leb (p .counts .right) (p .events) ≡ true
     unfolding countsLawful
-    right-allowed e = and-left (leb (p .counts .right) (p .events)) _ (and-right (leb (p .counts .left) (p .events)) _ (and-right (eqb (p .counts .flag) _) _ e))
+    right-allowed e = and-left (leb (p .counts .right) (p .events)) _ (and-right (leb (p .counts .left) (p .events)) _ (and-right (eqb (p .counts .unopened) _) _ (and-right (eqb (p .counts .flag) _) _ e)))
 
-    states-fail : countsLawful (desk spoiled shown bits) ≡ true → statesLawful B (desk spoiled shown bits) ≡ false
+    states-fail : countsLawful B (desk spoiled shown bits) ≡ true → statesLawful B (desk spoiled shown bits) ≡ false
     unfolding statesLawful
     states-fail e =
         ap (λ (b : Bool). gameLawful (p .game) B (desk spoiled shown bits) && (leb 1 (pick b 0 (p .counts .right)) && rulesOk (p .settings .rules))) (right-allowed (sym counts-same ∙ e))
@@ -93,7 +93,7 @@ module _ (p : Position) where
     lawful-spoiled : lawfulRefusal B (desk spoiled shown bits) ≡ unclear (lawfulRefusal B (desk p shown bits))
     unfolding lawfulRefusal
     lawful-spoiled =
-        chain (shownLawful B (desk spoiled shown bits)) (bitsLawful B (desk spoiled shown bits)) (countsLawful (desk spoiled shown bits)) (statesLawful B (desk p shown bits)) (statesLawful B (desk spoiled shown bits)) states-fail
+        chain (shownLawful B (desk spoiled shown bits)) (bitsLawful B (desk spoiled shown bits)) (countsLawful B (desk spoiled shown bits)) (statesLawful B (desk p shown bits)) (statesLawful B (desk spoiled shown bits)) states-fail
         ∙ simp (shown-same, bits-same, counts-same)
 
     refused-spoiled : (fit : Bool) → positionRefusal fit B (desk spoiled shown bits) ≡ unclear (positionRefusal fit B (desk p shown bits))

@@ -30,20 +30,18 @@ fn starts(p: Position, x: Pointer) -> bool
 }
 
 fn ready_lc(p: Position, x: Pointer) -> Played
-    ensures { λ r. ⌜ ((shown bits : List ℕ) → done (r .answer) (desk (r .position) shown bits) ≡ readyLc x (desk p shown bits)) × (r .opened ≡ 0) ⌝ }
+    ensures { λ r. ⌜ ((shown bits : List ℕ) → done (r .answer) (desk (r .position) shown bits) ≡ readyLc x (desk p shown bits)) ⌝ }
 {
     let q = mouse::moved(0, p);
     if starts(p, x) {
         let z = q.with_game(GameState::PreFlaging);
         return Played {
             answer: 0,
-            opened: 0,
             position: z,
         };
     }
     Played {
         answer: 0,
-        opened: 0,
         position: q,
     }
 }
@@ -68,7 +66,6 @@ fn ready_rc(
     }
     Played {
         answer: 0,
-        opened: 0,
         position: q,
     }
 }

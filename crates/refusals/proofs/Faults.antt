@@ -36,7 +36,7 @@ unfolding lawfulRefusal
 lawful-unheard B d k z h e =
     let a = heard 261 (shownLawful B d) _ k e (λ (q : 261 ≡ k). omega arith) in
     let b = heard 262 (bitsLawful B d) _ k (a .1) (λ (q : 262 ≡ k). omega arith) in
-    let c = heard 263 (countsLawful d) _ k (b .1) (λ (q : 263 ≡ k). omega arith) in
+    let c = heard 263 (countsLawful B d) _ k (b .1) (λ (q : 263 ≡ k). omega arith) in
     let s = heard 264 (statesLawful B d) 0 k (c .1) (λ (q : 264 ≡ k). omega arith) .1 in
     omega arith
 

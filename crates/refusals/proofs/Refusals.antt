@@ -128,14 +128,14 @@ module _ (s : Settings) (B : List ℤ) (shown bits : List ℕ) (t : Bool) (n : �
   unfolding setupRefusal rest
   setup-last z l = chain-last s t B rest n e z l ∙ ap (λ (u : Bool). settingsRefusal s u B rest) et
 
--- setup silent: the boards have their lengths
+-- setup silent: the mine board is of its size, and the boards have their lengths
 pub setup-fits : (s : Settings) (B : List ℤ) (shown bits : List ℕ) (n : ℕ) → n ≡ setupRefusal s B shown bits → n ≡ 0
-    → (length shown ≡ cellsIn s) × (length bits ≡ bitBytes (cellsIn s))
+    → Mined B (s .rows) (s .columns) × ((length shown ≡ cellsIn s) × (length bits ≡ bitBytes (cellsIn s)))
 unfolding setupRefusal
 setup-fits s B shown bits n e z =
     let a = settings-accepted s (boardsFit s B shown bits) B (unless 45 (rulesOk (s .rules)) 0) (sym e ∙ z) in
     let g = accepted-ground shown bits (a .0) (a .0 .fits) in
-    (g .board, g .room)
+    (g .mined, (g .board, g .room))
 
 module _ (R C : ℕ) (B : List ℤ) (work : List ℕ) where
   pub total-is : (m n : ℕ) → m ≡ R * C → n ≡ boardRefusal R C (eqb (length B) m && leb (8 * m + 8) (length work)) B → n ≡ totalRefusal R C B work

@@ -50,7 +50,7 @@ settingsRows s fit B = boardRows (s .rows) (s .columns) fit B ++ (row 25 (modeOk
 
 -- 261 to 264
 abbrev pub lawfulRows : List ℤ → Desk → List Row
-lawfulRows B d = row 261 (shownLawful B d) ∷ row 262 (bitsLawful B d) ∷ row 263 (countsLawful d) ∷ row 264 (statesLawful B d) ∷ []
+lawfulRows B d = row 261 (shownLawful B d) ∷ row 262 (bitsLawful B d) ∷ row 263 (countsLawful B d) ∷ row 264 (statesLawful B d) ∷ []
 
 -- 20 to 264
 abbrev pub positionRows : Bool → List ℤ → Desk → List Row

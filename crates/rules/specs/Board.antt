@@ -7,7 +7,7 @@ use lib.ListN.{length, getD}
 use lib.IntN.{ℤ, pos, negsuc}
 use Rattle.rules.specs.declared.Place.{Place}
 use Rattle.rules.specs.declared.Place.the-variants.{Nowhere, At}
-use Rattle.rules.specs.Words.{pick, unless, every, firstNot, inOrder}
+use Rattle.rules.specs.Words.{pick, unless, count, every, firstNot, inOrder}
 use Rattle.rules.specs.Grid.{sizeOk, cellOf, around}
 
 -- what a cell shows once it is open: its number, or 15 for a mine
@@ -50,6 +50,10 @@ numbersOk B R C = every (numberOk B R C) (length B)
 -- 24: some cell is safe
 unfoldable pub someSafe : List ℤ → Bool
 someSafe B = not (every (mineAt B) (length B))
+
+-- how many cells are safe
+unfoldable pub safeIn : List ℤ → ℕ
+safeIn B = count (λ i. not (mineAt B i)) (length B)
 
 -- the refusals 20 to 24 in their order, where `fit` says that every buffer has the right length
 unfoldable pub boardRefusal : ℕ → ℕ → Bool → List ℤ → ℕ

@@ -1,7 +1,7 @@
 -- The entry points: for each call, its refusals in their order, and its one outcome for every input.
 use mathlib.Core.Bool.{Bool, true, _&&_, _||_}
 use mathlib.Core.List.{List, [], _∷_}
-use Prim.Native.Nat.{ℕ, _+_, _-_, _*_, _%_}
+use Prim.Native.Nat.{ℕ, _+_, _*_, _%_}
 use lib.Dec.{ltb, leb, eqb}
 use lib.ListN.{length, replicate}
 use lib.IntN.{ℤ}
@@ -15,13 +15,14 @@ use Rattle.rules.specs.declared.Decoded.the-variants.{At, Bad}
 use Rattle.rules.specs.declared.GameState.the-variants.{Loss}
 use Rattle.rules.specs.Words.{pick, unless}
 use Rattle.rules.specs.States.{mouseNumber, freshOf, withGame, withMiddle}
-use Rattle.rules.specs.Board.{boardRefusal, boardCheck, faultOf, numbered, numberingRefusal}
+use Rattle.rules.specs.Board.{boardRefusal, boardCheck, faultOf, numbered, numberingRefusal, safeIn}
 use Rattle.rules.specs.Lent.{bitBytes, workRoom, workAfter}
+use Rattle.rules.specs.Opening.{openedIn}
 use Rattle.rules.specs.Judging.{total3bv, leftToSolve}
 use Rattle.rules.specs.Clicks.{Desk, Play, desk, done}
 use Rattle.rules.specs.Mouse.{rulesOk, resolved, flipped}
 use Rattle.rules.specs.Step.{pointerOf, stepOn, plainOn}
-use Rattle.rules.specs.Lawful.{countShown, isOpen, lawfulRefusal}
+use Rattle.rules.specs.Lawful.{lawfulRefusal}
 
 -- an answer, and what stands in the lent buffers after the call
 pub record Outcome : Type 0 where
@@ -87,9 +88,9 @@ positionCheckOf B d = checks (d .position .settings .rows) (d .position .setting
 
 -- ---- setup and reset -------------------------------------------------------------------------------------------------------------------
 
--- the fresh desk: every shown cell 10 and every bit and count 0
-abbrev pub freshDesk : Settings → Desk
-freshDesk s = desk (freshOf s) (replicate (cellsIn s) 10) (replicate (bitBytes (cellsIn s)) 0)
+-- the fresh desk: every shown cell 10 and every bit and count 0, but that of the safe cells still closed, which all are
+abbrev pub freshDesk : Settings → List ℤ → Desk
+freshDesk s B = desk (freshOf s (safeIn B)) (replicate (cellsIn s) 10) (replicate (bitBytes (cellsIn s)) 0)
 
 pub record SetUp : Type 0 where
   pub answer : Answer
@@ -107,16 +108,16 @@ setBy o = desk (o .answer .position) (o .shown) (o .bits)
 unfoldable pub setupBy : ℕ → List ℤ → Position → Settings → List ℕ → List ℕ → SetUp
 setupBy n B otherwise s shown bits =
     pick (eqb n 0)
-    (setUp (answers 0 (freshDesk s .position) 0) (freshDesk s .shown) (freshDesk s .bits))
+    (setUp (answers 0 (freshDesk s B .position) 0) (freshDesk s B .shown) (freshDesk s B .bits))
     (setUp (refuses B otherwise n) shown bits)
 
 -- 20 to 25, then 45: the rules are 1 or 2
 unfoldable pub setupRefusal : Settings → List ℤ → List ℕ → List ℕ → ℕ
 setupRefusal s B shown bits = settingsRefusal s (boardsFit s B shown bits) B (unless 45 (rulesOk (s .rules)) 0)
 
--- setup is given no position, so a refusal gives the fresh one back
+-- setup is given no position, so a refusal gives the fresh one back, of no board
 unfoldable pub setupOf : Settings → List ℤ → List ℕ → List ℕ → SetUp
-setupOf s B shown bits = setupBy (setupRefusal s B shown bits) B (freshOf s) s shown bits
+setupOf s B shown bits = setupBy (setupRefusal s B shown bits) B (freshOf s 0) s shown bits
 
 -- reset is setup with the position's own settings
 unfoldable pub resetOf : List ℤ → Desk → SetUp
@@ -159,10 +160,6 @@ refusedAt B n d work = outcome (refuses B (d .position) n) (d .shown) (d .bits) 
 
 abbrev pub accepted : ℕ → ℕ → Desk → List ℕ → Outcome
 accepted n v d work = outcome (answers n (d .position) v) (d .shown) (d .bits) (workAfter (cellsIn (d .position .settings)) work)
-
--- how many cells went from closed to showing 0 to 8: the open cells after less those before
-abbrev pub openedIn : List ℕ → List ℕ → ℕ
-openedIn before after = countShown isOpen after - countShown isOpen before
 
 -- a played event, refused from 20 on; beside its answer stands what it opened
 abbrev pub played : List ℕ → Play → List ℕ → Outcome

@@ -1,18 +1,18 @@
 -- The clicks: left, right and chord, each as what it leaves of a desk, with its answer. The automatic passes come after, in Passes.
-use mathlib.Core.Bool.{Bool, not, _&&_, _||_}
+use mathlib.Core.Bool.{Bool, not, _&&_}
 use mathlib.Core.List.{List, [], _∷_}
 use Prim.Native.Nat.{ℕ, _+_, _-_, _*_}
 use lib.Dec.{ltb, eqb}
-use lib.ListN.{length, getD, set}
+use lib.ListN.{getD, set}
 use lib.IntN.{ℤ}
 use Rattle.rules.specs.declared.Position.{Position}
 use Rattle.rules.specs.declared.GameState.the-variants.{Win, Loss}
-use Rattle.rules.specs.Words.{pick, bit, every}
-use Rattle.rules.specs.States.{withGame, withLeft, withRight, withLce, withFlag, withRce, withSolvedLeft, withSolvedChord}
+use Rattle.rules.specs.Words.{pick, bit}
+use Rattle.rules.specs.States.{withGame, withLeft, withRight, withLce, withFlag, withUnopened, withRce, withSolvedLeft, withSolvedChord}
 use Rattle.rules.specs.Grid.{around, pushed}
 use Rattle.rules.specs.Board.{faceAt, mineAt, loneAt}
 use Rattle.rules.specs.Lent.{bitAt, withBit}
-use Rattle.rules.specs.Opening.{closedAt, Opened, refreshed}
+use Rattle.rules.specs.Opening.{closedAt, Opened, refreshed, openedIn}
 use Rattle.rules.specs.Judging.{judgedLeft, openingsJudged, lones}
 
 -- what lies before the player: the position, the shown board and the flagged-before bits
@@ -48,22 +48,22 @@ columnsOf d = d .position .settings .columns
 abbrev pub cellsOf : Desk → ℕ
 cellsOf d = rowsOf d * columnsOf d
 
--- ---- the win test, and how an opening ends -------------------------------------------------------------------------------------------
+-- ---- how an opening ends ---------------------------------------------------------------------------------------------------------------
 
--- a mine, or an open cell
-abbrev pub doneAt : List ℤ → List ℕ → ℕ → Bool
-doneAt B shown i = mineAt B i || ltb (getD shown i 0) 10
+-- the board that an opening shows, and as many safe cells fewer still closed as it opened
+abbrev pub uncovered : Desk → List ℕ → Desk
+uncovered d shown =
+    desk (withUnopened (d .position) (d .position .counts .unopened - openedIn (d .shown) shown)) shown (d .bits)
 
--- no safe cell is left
-unfoldable pub isWon : List ℤ → List ℕ → Bool
-isWon B shown = every (doneAt B shown) (length shown)
+-- a mine: Loss, 4; else Win where no safe cell is left, and the answer given
+abbrev pub endsBy : Bool → ℕ → Desk → Play
+endsBy hit n d =
+    pick hit (done 4 (on d (withGame (d .position) Loss)))
+    (pick (eqb (d .position .counts .unopened) 0) (done n (on d (withGame (d .position) Win)))
+    (done n d))
 
--- a mine: Loss, 4; else test for the win, and the answer given
-unfoldable pub ended : List ℤ → ℕ → Desk → Opened → Play
-ended B n d o =
-    pick (o .hit) (done 4 (desk (withGame (d .position) Loss) (o .shown) (d .bits)))
-    (pick (isWon B (o .shown)) (done n (desk (withGame (d .position) Win) (o .shown) (d .bits)))
-    (done n (showing d (o .shown))))
+unfoldable pub ended : ℕ → Desk → Opened → Play
+ended n d o = endsBy (o .hit) n (uncovered d (o .shown))
 
 -- ---- left ------------------------------------------------------------------------------------------------------------------------------
 
@@ -83,7 +83,7 @@ leftCounts B d i =
 -- the cell shows 10: a mine counts nothing
 unfoldable pub leftOpens : List ℤ → ℕ → Desk → Play
 leftOpens B i d =
-    ended B 2 (pick (mineAt B i) d (leftCounts B d i)) (refreshed B (rowsOf d) (columnsOf d) (i ∷ []) (d .shown))
+    ended 2 (pick (mineAt B i) d (leftCounts B d i)) (refreshed B (rowsOf d) (columnsOf d) (i ∷ []) (d .shown))
 
 -- LEFT: left + 1; unless the cell shows 10, answer 0; a mine: 15, Loss, 4; else open it, lce + 1, test for the win, 2
 unfoldable pub leftClick : List ℤ → ℕ → Desk → Play
@@ -146,7 +146,7 @@ chordCounts B cells d =
     (d .position .secrets .«solved_chord» + lones B (rowsOf d) (columnsOf d) cells + openingsJudged B (rowsOf d) (columnsOf d) (d .shown) cells))
 
 unfoldable pub chordOpens : List ℤ → List ℕ → Desk → Play
-chordOpens B cells d = ended B 3 (chordCounts B cells d) (refreshed B (rowsOf d) (columnsOf d) cells (d .shown))
+chordOpens B cells d = ended 3 (chordCounts B cells d) (refreshed B (rowsOf d) (columnsOf d) cells (d .shown))
 
 -- CHORD, but for double and dce (`perform_chord`): a mine: Loss, 4; else 3; a chord that cannot run answers 0
 unfoldable pub performChord : List ℤ → ℕ → Desk → Play

@@ -11,19 +11,12 @@ use Rattle.rules.specs.Words.{pick, unless, count, every}
 use Rattle.rules.specs.States.{isLoss, isNotFlag}
 use Rattle.rules.specs.Board.{faceAt, mineAt}
 use Rattle.rules.specs.Lent.{bitAt}
-use Rattle.rules.specs.Clicks.{Desk, isWon}
+use Rattle.rules.specs.Opening.{countShown, isOpen}
+use Rattle.rules.specs.Clicks.{Desk}
 use Rattle.rules.specs.Mouse.{rulesOk}
-
--- how many cells show something that passes a test
-unfoldable pub countShown : (ℕ → Bool) → List ℕ → ℕ
-countShown f shown = count (λ i. f (getD shown i 0)) (length shown)
 
 abbrev pub shows : ℕ → ℕ → Bool
 shows v x = eqb x v
-
--- 0 to 8
-abbrev pub isOpen : ℕ → Bool
-isOpen x = leb x 8
 
 -- 11 or 14
 abbrev pub isFlag : ℕ → Bool
@@ -32,6 +25,18 @@ isFlag x = eqb x 11 || eqb x 14
 -- 0 to 8 or 15
 abbrev pub isOpenOrHit : ℕ → Bool
 isOpenOrHit x = leb x 8 || eqb x 15
+
+-- a mine, or an open cell
+abbrev pub doneAt : List ℤ → List ℕ → ℕ → Bool
+doneAt B shown i = mineAt B i || isOpen (getD shown i 0)
+
+-- no safe cell is left
+unfoldable pub isWon : List ℤ → List ℕ → Bool
+isWon B shown = every (doneAt B shown) (length shown)
+
+-- how many are: safe cells that do not show 0 to 8
+unfoldable pub unopenedIn : List ℤ → List ℕ → ℕ
+unopenedIn B shown = count (λ i. not (doneAt B shown i)) (length shown)
 
 -- ---- shown values ----------------------------------------------------------------------------------------------------------------------
 
@@ -61,12 +66,13 @@ bitsLawful B d = every (λ n. not (bitAt (d .bits) n) || mineAt B n) (8 * length
 
 -- ---- counts ----------------------------------------------------------------------------------------------------------------------------
 
--- the flag count is the number of cells showing 11 or 14; left, right, lce, rce, dce and the pre-flag count are each at most the accepted
--- events, themselves at most 65,535; double is at most these events plus the cells showing 0 to 8 or 15; the two solved counts together are
--- at most the open cells
-unfoldable pub countsLawful : Desk → Bool
-countsLawful d =
+-- the flag count is the number of cells showing 11 or 14, and the number of safe cells still closed is the safe cells not open; left, right, lce, rce,
+-- dce and the pre-flag count are each at most the accepted events, themselves at most 65,535; double is at most these events plus the cells showing
+-- 0 to 8 or 15; the two solved counts together are at most the open cells
+unfoldable pub countsLawful : List ℤ → Desk → Bool
+countsLawful B d =
     eqb (d .position .counts .flag) (countShown isFlag (d .shown))
+    && (eqb (d .position .counts .unopened) (unopenedIn B (d .shown))
     && (leb (d .position .counts .left) (d .position .events)
     && (leb (d .position .counts .right) (d .position .events)
     && (leb (d .position .counts .lce) (d .position .events)
@@ -75,7 +81,7 @@ countsLawful d =
     && (leb (d .position .preflags) (d .position .events)
     && (leb (d .position .events) 65535
     && (leb (d .position .counts .double) (d .position .events + countShown isOpenOrHit (d .shown))
-    && leb (d .position .secrets .«solved_left» + d .position .secrets .«solved_chord») (countShown isOpen (d .shown))))))))))
+    && leb (d .position .secrets .«solved_left» + d .position .secrets .«solved_chord») (countShown isOpen (d .shown)))))))))))
 
 -- ---- what the states ask ---------------------------------------------------------------------------------------------------------------
 
@@ -98,12 +104,12 @@ statesLawful B d =
 
 -- lawful means all of these
 unfoldable pub lawful : List ℤ → Desk → Bool
-lawful B d = shownLawful B d && (bitsLawful B d && (countsLawful d && statesLawful B d))
+lawful B d = shownLawful B d && (bitsLawful B d && (countsLawful B d && statesLawful B d))
 
 -- the refusal of a position that is not lawful, or 0: 261 to 264 in their order
 unfoldable pub lawfulRefusal : List ℤ → Desk → ℕ
 lawfulRefusal B d =
     unless 261 (shownLawful B d)
     (unless 262 (bitsLawful B d)
-    (unless 263 (countsLawful d)
+    (unless 263 (countsLawful B d)
     (unless 264 (statesLawful B d) 0)))

@@ -1,11 +1,11 @@
 -- Opening (`refresh_board`): given cells open; a 0 opens its neighbours showing 10, never 11 or 17. If a mine is hit, each flag on a safe cell becomes 14.
 use mathlib.Core.Bool.{Bool, false, not, _&&_, _||_}
 use mathlib.Core.List.{List, [], _∷_}
-use Prim.Native.Nat.{ℕ, zero, suc, _+_, _*_}
-use lib.Dec.{eqb}
+use Prim.Native.Nat.{ℕ, zero, suc, _+_, _-_, _*_}
+use lib.Dec.{leb, eqb}
 use lib.ListN.{length, getD, set}
 use lib.IntN.{ℤ}
-use Rattle.rules.specs.Words.{pick}
+use Rattle.rules.specs.Words.{pick, count}
 use Rattle.rules.specs.Grid.{pushed}
 use Rattle.rules.specs.Board.{faceAt, mineAt}
 
@@ -54,3 +54,17 @@ crossedIfHit B o = record { shown = pick (o .hit) (crossed B (length (o .shown))
 -- THE opening of the given cells, a stack
 unfoldable pub refreshed : List ℤ → ℕ → ℕ → List ℕ → List ℕ → Opened
 refreshed B R C given shown = crossedIfHit B (run B R C (turns (R * C)) given shown false)
+
+-- ---- what was opened -------------------------------------------------------------------------------------------------------------------
+
+-- how many cells show something that passes a test
+unfoldable pub countShown : (ℕ → Bool) → List ℕ → ℕ
+countShown f shown = count (λ i. f (getD shown i 0)) (length shown)
+
+-- 0 to 8
+abbrev pub isOpen : ℕ → Bool
+isOpen x = leb x 8
+
+-- how many cells went from closed to showing 0 to 8: the open cells after less those before
+abbrev pub openedIn : List ℕ → List ℕ → ℕ
+openedIn before after = countShown isOpen after - countShown isOpen before

@@ -1,5 +1,5 @@
 -- The positions that document 01 marks P, and ten beside them, as one table and one theorem that the checker computes over the definitions; after it
--- the same for positions that are refused, and for events that are resolved or played as they are.
+-- the same for the number of safe cells still closed, for positions that are refused, and for events that are resolved or played as they are.
 -- Open is lc, lr; flag rc, rr. Each row is a game from its fresh start: settings, mine list, events, all that stands at its end, and what each event opened.
 use mathlib.Core.Path.{_≡_, refl}
 use mathlib.Core.Bool.{Bool, true, false, _&&_}
@@ -16,16 +16,16 @@ use Rattle.rules.specs.declared.GameState.the-variants.{Ready, Loss}
 use Rattle.rules.specs.Words.{pick, bit, count, every, firstNot, inOrder, stackOf, rounds}
 use Rattle.rules.specs.States.{gameNumber, mouseNumber, mouseAt, freshOf, withGame, withMouse, withMiddle, withEvents, withRight, withFlag}
 use Rattle.rules.specs.Grid.{sizeOk, ninth, cellBefore, neighbour, around, pushed, cellsIf}
-use Rattle.rules.specs.Board.{zeroAt, loneAt, valuesOk, numberOk, numbersOk, someSafe, boardRefusal, rowByte, columnByte, faultOf, mineOk, listedMine, numberedAt, numbered, numberingRefusal}
+use Rattle.rules.specs.Board.{zeroAt, loneAt, valuesOk, numberOk, numbersOk, someSafe, safeIn, boardRefusal, rowByte, columnByte, faultOf, mineOk, listedMine, numberedAt, numbered, numberingRefusal}
 use Rattle.rules.specs.Lent.{bitAt, withBit}
-use Rattle.rules.specs.Opening.{shownAfter, stackAfter, hitAfter, run, crossed, refreshed}
+use Rattle.rules.specs.Opening.{shownAfter, stackAfter, hitAfter, run, crossed, refreshed, countShown, openedIn}
 use Rattle.rules.specs.Judging.{freeAt, kind, walk, walkFrom, judgedLeft, judgeOne, tally, openingsJudged, lones, total3bv, bvOf, notOpenAt, leftToSolve}
-use Rattle.rules.specs.Clicks.{Desk, Play, desk, done, rowsOf, columnsOf, cellsOf, flagAt, isWon, ended, solvesLeft, leftOpens, leftClick, bitsWith, addsRce, takeBack, chordIsUseful, chordOpens, performChord}
+use Rattle.rules.specs.Clicks.{Desk, Play, desk, done, rowsOf, columnsOf, cellsOf, flagAt, ended, solvesLeft, leftOpens, leftClick, bitsWith, addsRce, takeBack, chordIsUseful, chordOpens, performChord}
 use Rattle.rules.specs.Passes.{remainder, allClosed, ripeAt, listed, flagOne, flagAll, flagRound, flagPass, chordOne, chordScan, chordRound, chordPass, bothRound, bothPass, passesAfterFlag, passesAfterChord, rightClick, chordingClick}
 use Rattle.rules.specs.Mouse.{mouseTable, nextMouse, moved, bothDown, rulesOk, resolved, flipped}
 use Rattle.rules.specs.Step.{seenAt, leftAt, rightAt, chordAt, chordFrom, playLc, playLr, playRc, playRr, playing, preFlag, readyLc, readyRc, ready, preLeft, preLr, preCell, preRight, preRc, preFlaging, byGame, pointerOf, eventOf, errsPlaying, errsPreFlaging, badPreFlag, eventRefusal, plainOf, refusalAt, playAt, stepAt, stepBy, stepOn, plainCode, plainOn}
-use Rattle.rules.specs.Lawful.{countShown, cellLawful, shownLawful, bitsLawful, countsLawful, gameLawful, statesLawful, lawfulRefusal}
-use Rattle.rules.specs.Calls.{boardsFit, modeOk, settingsRefusal, positionRefusal, positionCheck, positionCheckOf, freshDesk, resolveBy, resolveOf, plays, lastPlay, openedIn}
+use Rattle.rules.specs.Lawful.{cellLawful, shownLawful, bitsLawful, countsLawful, gameLawful, statesLawful, lawfulRefusal, unopenedIn}
+use Rattle.rules.specs.Calls.{boardsFit, modeOk, settingsRefusal, positionRefusal, positionCheck, positionCheckOf, freshDesk, resolveBy, resolveOf, plays, lastPlay}
 use Rattle.rules.specs.Printout.{nineCounts, twoBv}
 
 pub record Row : Type 0 where
@@ -43,9 +43,6 @@ told s mines o =
     (o .answer ∷ gameNumber (o .desk .position .game) ∷ mouseNumber (o .desk .position .mouse) ∷ nineCounts (o .desk .position))
     ++ (twoBv (numbered (s .rows) (s .columns) mines) (o .desk) ++ o .desk .shown)
 
-fresh : Settings → Play
-fresh s = done 0 (freshDesk s)
-
 -- the mine board of a row, and the refusal of its mine list
 abbrev boardIn : Row → List ℤ
 boardIn t = numbered (t .settings .rows) (t .settings .columns) (t .mines)
@@ -53,12 +50,15 @@ boardIn t = numbered (t .settings .rows) (t .settings .columns) (t .mines)
 abbrev refusalIn : Row → ℕ
 refusalIn t = numberingRefusal (t .settings .rows) (t .settings .columns) (t .mines) (boardIn t)
 
--- the plays of its game, and the last
+-- its fresh start, the plays of its game, and the last
+unfoldable fresh : Row → Desk
+fresh t = freshDesk (t .settings) (boardIn t)
+
 unfoldable played : Row → List Play
-played t = plays (boardIn t) (t .events) (fresh (t .settings) .desk)
+played t = plays (boardIn t) (t .events) (fresh t)
 
 unfoldable last : Row → Play
-last t = lastPlay (fresh (t .settings)) (played t)
+last t = lastPlay (done 0 (fresh t)) (played t)
 
 -- what each play opened
 unfoldable openedFrom : List ℕ → List Play → List ℕ
@@ -95,7 +95,7 @@ wrongRows (t ∷ ts) =
     let more = wrongRows ts in
     pick
     (same eqb (ends t) (t .gives)
-    && (same eqz (remaindersIn (last t .desk) (cellsOf (last t .desk))) (t .remainders) && same eqb (openedFrom (fresh (t .settings) .desk .shown) (played t)) (t .opened)))
+    && (same eqz (remaindersIn (last t .desk) (cellsOf (last t .desk))) (t .remainders) && same eqb (openedFrom (fresh t .shown) (played t)) (t .opened)))
     more (t .name ∷ more)
 
 -- rows, columns, mode, question marks; rules 1
@@ -193,12 +193,65 @@ table =
 pub positions : wrongRows table ≡ []
 unfolding wrongRows same eqz remaindersIn played last openedFrom countShown ends told fresh table row size byRules open′ flag′ event count every inOrder stackOf rounds mouseAt sizeOk ninth cellBefore neighbour
     around cellsIf pushed zeroAt loneAt mineOk listedMine numberedAt numbered numberingRefusal bitAt withBit shownAfter stackAfter hitAfter run crossed refreshed freeAt
-    kind walk walkFrom judgedLeft judgeOne tally openingsJudged lones bvOf total3bv notOpenAt leftToSolve isWon ended solvesLeft leftOpens leftClick bitsWith addsRce takeBack
+    kind walk walkFrom judgedLeft judgeOne tally openingsJudged lones bvOf total3bv notOpenAt leftToSolve safeIn ended solvesLeft leftOpens leftClick bitsWith addsRce takeBack
     chordIsUseful chordOpens performChord allClosed ripeAt listed flagOne flagAll flagRound flagPass chordOne chordScan chordRound chordPass bothRound bothPass
     passesAfterFlag passesAfterChord rightClick chordingClick mouseTable nextMouse moved bothDown resolved flipped seenAt leftAt rightAt chordAt chordFrom
     playLc playLr playRc playRr playing preFlag readyLc readyRc ready preLeft preLr preCell preRight preRc preFlaging byGame pointerOf eventOf errsPlaying
     errsPreFlaging badPreFlag eventRefusal plainOf refusalAt playAt stepAt stepBy stepOn plays lastPlay
 positions = refl
+
+-- ---- the safe cells still closed -------------------------------------------------------------------------------------------------------
+
+-- a game from its fresh start, and that number there and after each event
+pub record Closing : Type 0 where
+  pub name : ℕ
+  pub settings : Settings
+  pub mines : List ℕ
+  pub events : List ℕ
+  pub numbers : List ℕ
+
+unfoldable numbersAfter : List Play → List ℕ
+numbersAfter [] = []
+numbersAfter (o ∷ os) = o .desk .position .counts .unopened ∷ numbersAfter os
+
+unfoldable closing : Closing → List ℕ
+closing t =
+    let B = numbered (t .settings .rows) (t .settings .columns) (t .mines) in
+    let d = freshDesk (t .settings) B in
+    d .position .counts .unopened ∷ numbersAfter (plays B (t .events) d)
+
+-- the names of the rows that do not hold
+pub wrongClosings : List Closing → List ℕ
+wrongClosings [] = []
+wrongClosings (t ∷ ts) =
+    let more = wrongClosings ts in
+    pick (same eqb (closing t) (t .numbers)) more (t .name ∷ more)
+
+close′ : ℕ → Settings → List ℕ → List ℕ → List ℕ → Closing
+close′ n s mines events numbers = record { name = n; settings = s; mines = mines; events = events; numbers = numbers }
+
+pub closings : List Closing
+closings =
+    -- 3×3, mine (2,2), the lost chord: open (1,1), which shows 1; flag (2,0), mr (1,1): (2,0) shows 14
+    close′ 1 (size 3 3 0 false) (2 ∷ 2 ∷ []) (open′ 1 1 (flag′ 2 0 (event 6 1 1 []))) (8 ∷ 8 ∷ 7 ∷ 7 ∷ 7 ∷ 1 ∷ [])
+    -- 1×1 safe: Win at 0
+    ∷ close′ 2 (size 1 1 0 false) [] (open′ 0 0 []) (1 ∷ 1 ∷ 0 ∷ [])
+    -- 1×3, mine (0,1), questions on: PreFlaging cleared to Ready
+    ∷ close′ 3 (size 1 3 0 true) (0 ∷ 1 ∷ []) (flag′ 0 0 (flag′ 0 2 (flag′ 0 0 (flag′ 0 2 (event 2 0 0 [])))))
+    (2 ∷ 2 ∷ 2 ∷ 2 ∷ 2 ∷ 2 ∷ 2 ∷ 2 ∷ 2 ∷ 2 ∷ [])
+    -- 1×6, mines (0,0) and (0,3), mode 13; open (0,1), flag (0,0): the chord pass opens (0,2)
+    ∷ close′ 4 (size 1 6 13 false) (0 ∷ 0 ∷ 0 ∷ 3 ∷ []) (open′ 0 1 (flag′ 0 0 [])) (4 ∷ 4 ∷ 3 ∷ 2 ∷ 2 ∷ [])
+    ∷ []
+
+pub closing-numbers : wrongClosings closings ≡ []
+unfolding wrongClosings closings closing close′ numbersAfter same eqz countShown size open′ flag′ event count every inOrder stackOf rounds mouseAt sizeOk ninth cellBefore neighbour around cellsIf pushed
+    zeroAt loneAt listedMine numberedAt numbered bitAt withBit shownAfter stackAfter hitAfter run crossed refreshed freeAt kind walk walkFrom
+    judgedLeft judgeOne tally openingsJudged lones safeIn ended solvesLeft leftOpens leftClick bitsWith addsRce takeBack chordIsUseful chordOpens
+    performChord allClosed ripeAt listed flagOne flagAll flagRound flagPass chordOne chordScan chordRound chordPass bothRound bothPass
+    passesAfterFlag passesAfterChord rightClick chordingClick mouseTable nextMouse moved bothDown resolved flipped seenAt leftAt rightAt chordAt
+    chordFrom playLc playLr playRc playRr playing preFlag readyLc readyRc ready preLeft preLr preCell preRight preRc preFlaging byGame pointerOf
+    eventOf errsPlaying errsPreFlaging badPreFlag eventRefusal plainOf refusalAt playAt stepAt stepBy stepOn plays lastPlay
+closing-numbers = refl
 
 -- ---- refused positions -----------------------------------------------------------------------------------------------------------------
 
@@ -221,12 +274,13 @@ wrongTyped (t ∷ ts) =
     let more = wrongTyped ts in
     pick (same eqb (checked t) (t .says)) more (t .name ∷ more)
 
--- 3×3, mine (2,2), every cell closed, Ready, but for the board, the shown cell (0,0), the first byte of bits, the flag count and the mouse state
-typed : ℕ → List ℤ → ℕ → ℕ → ℕ → MouseState → List ℕ → Typed
-typed n B x byte flag mouse says = record {
+-- 3×3, mine (2,2), every cell closed, Ready, but for the board, the shown cell (0,0), the first byte of bits, the flag count, the safe cells still
+-- closed and the mouse state
+typed : ℕ → List ℤ → ℕ → ℕ → ℕ → ℕ → MouseState → List ℕ → Typed
+typed n B x byte flag unopened mouse says = record {
   name = n;
   board = B;
-  desk = desk (withFlag (withMouse (freshOf (size 3 3 0 false)) mouse) flag) (x ∷ replicate 8 10) (byte ∷ 0 ∷ []);
+  desk = desk (withFlag (withMouse (freshOf (size 3 3 0 false) unopened) mouse) flag) (x ∷ replicate 8 10) (byte ∷ 0 ∷ []);
   says = says;
 }
 
@@ -239,25 +293,28 @@ right-numbers = numbers (pos 0) (pos 1) (pos 1) (pos 1) (negsuc 0)
 pub typedTable : List Typed
 typedTable =
     -- 0 0 0 / 0 1 1 / 0 1 -1 as it is
-    typed 1 right-numbers 10 0 0 UpUp (0 ∷ 255 ∷ 255 ∷ [])
+    typed 1 right-numbers 10 0 0 8 UpUp (0 ∷ 255 ∷ 255 ∷ [])
     -- (1,1) is 2; (1,2) too
-    ∷ typed 2 (numbers (pos 0) (pos 2) (pos 1) (pos 1) (negsuc 0)) 10 0 0 UpUp (23 ∷ 1 ∷ 1 ∷ [])
-    ∷ typed 3 (numbers (pos 0) (pos 2) (pos 2) (pos 1) (negsuc 0)) 10 0 0 UpUp (23 ∷ 1 ∷ 1 ∷ [])
+    ∷ typed 2 (numbers (pos 0) (pos 2) (pos 1) (pos 1) (negsuc 0)) 10 0 0 8 UpUp (23 ∷ 1 ∷ 1 ∷ [])
+    ∷ typed 3 (numbers (pos 0) (pos 2) (pos 2) (pos 1) (negsuc 0)) 10 0 0 8 UpUp (23 ∷ 1 ∷ 1 ∷ [])
     -- (0,0) is 1 and (1,2) is 9: every value is tested before a number is
-    ∷ typed 4 (numbers (pos 1) (pos 1) (pos 9) (pos 1) (negsuc 0)) 10 0 0 UpUp (22 ∷ 1 ∷ 2 ∷ [])
+    ∷ typed 4 (numbers (pos 1) (pos 1) (pos 9) (pos 1) (negsuc 0)) 10 0 0 8 UpUp (22 ∷ 1 ∷ 2 ∷ [])
     -- (2,1) is -2 and (2,2) is 9
-    ∷ typed 5 (numbers (pos 0) (pos 1) (pos 1) (negsuc 1) (pos 9)) 10 0 0 UpUp (22 ∷ 2 ∷ 1 ∷ [])
+    ∷ typed 5 (numbers (pos 0) (pos 1) (pos 1) (negsuc 1) (pos 9)) 10 0 0 8 UpUp (22 ∷ 2 ∷ 1 ∷ [])
     -- (0,0) shows 12, bit 0 is set, the flag count is 5 and the mouse UpDownNotFlag; then without the 12, without the bit, without the flag count
-    ∷ typed 6 right-numbers 12 1 5 UpDownNotFlag (261 ∷ 255 ∷ 255 ∷ [])
-    ∷ typed 7 right-numbers 10 1 5 UpDownNotFlag (262 ∷ 255 ∷ 255 ∷ [])
-    ∷ typed 8 right-numbers 10 0 5 UpDownNotFlag (263 ∷ 255 ∷ 255 ∷ [])
-    ∷ typed 9 right-numbers 10 0 0 UpDownNotFlag (264 ∷ 255 ∷ 255 ∷ [])
+    ∷ typed 6 right-numbers 12 1 5 8 UpDownNotFlag (261 ∷ 255 ∷ 255 ∷ [])
+    ∷ typed 7 right-numbers 10 1 5 8 UpDownNotFlag (262 ∷ 255 ∷ 255 ∷ [])
+    ∷ typed 8 right-numbers 10 0 5 8 UpDownNotFlag (263 ∷ 255 ∷ 255 ∷ [])
+    ∷ typed 9 right-numbers 10 0 0 8 UpDownNotFlag (264 ∷ 255 ∷ 255 ∷ [])
+    -- seven safe cells are said to be closed, and eight are; nine
+    ∷ typed 10 right-numbers 10 0 0 7 UpUp (263 ∷ 255 ∷ 255 ∷ [])
+    ∷ typed 11 right-numbers 10 0 0 9 UpUp (263 ∷ 255 ∷ 255 ∷ [])
     ∷ []
 
 pub typed-positions : wrongTyped typedTable ≡ []
 unfolding wrongTyped same checked typedTable typed numbers right-numbers size positionCheck positionRefusal settingsRefusal boardsFit modeOk boardRefusal sizeOk valuesOk
     numbersOk numberOk someSafe faultOf firstNot every count around neighbour ninth cellBefore lawfulRefusal shownLawful cellLawful bitsLawful bitAt
-    countsLawful countShown statesLawful gameLawful rulesOk
+    countsLawful unopenedIn countShown statesLawful gameLawful rulesOk
 typed-positions = refl
 
 -- ---- resolving, and plain events -------------------------------------------------------------------------------------------------------
@@ -293,7 +350,7 @@ wrongHanded (t ∷ ts) =
 -- 3×3, mine (2,2), every cell closed, in a game state, a mouse state, with the middle flag, and with so many right clicks among as many events
 hand : GameState → MouseState → Bool → ℕ → Settings → Desk
 hand game mouse middle n s =
-    desk (withEvents (withRight (withMiddle (withMouse (withGame (freshOf s) game) mouse) middle) n) n) (replicate 9 10) (0 ∷ 0 ∷ [])
+    desk (withEvents (withRight (withMiddle (withMouse (withGame (freshOf s 8) game) mouse) middle) n) n) (replicate 9 10) (0 ∷ 0 ∷ [])
 
 handed : ℕ → Desk → ℕ → ℕ → ℕ → List ℕ → List ℕ → Handed
 handed n d code r c resolves plays = record { name = n; desk = d; code = code; row = r; column = c; resolves = resolves; plays = plays }
@@ -324,5 +381,5 @@ handTable =
 pub handed-positions : wrongHanded handTable ≡ []
 unfolding wrongHanded same resolving playingPlain handTable handed hand right-numbers numbers size byRules resolveOf resolveBy plainCode positionCheck positionRefusal settingsRefusal boardsFit
     modeOk boardRefusal sizeOk valuesOk numbersOk numberOk someSafe every count around neighbour ninth cellBefore lawfulRefusal shownLawful cellLawful bitsLawful bitAt
-    countsLawful countShown statesLawful gameLawful rulesOk faultOf bothDown resolved flipped byGame ready pointerOf eventOf badPreFlag eventRefusal plainOf refusalAt playAt stepAt stepBy stepOn
+    countsLawful unopenedIn countShown statesLawful gameLawful rulesOk faultOf bothDown resolved flipped byGame ready pointerOf eventOf badPreFlag eventRefusal plainOf refusalAt playAt stepAt stepBy stepOn
 handed-positions = refl

@@ -100,16 +100,16 @@ endLines B d =
 abbrev pub bookBoard : List ℕ → Book → List ℤ
 bookBoard s b = numbered (b .settings .rows) (b .settings .columns) (minesOf s b)
 
-abbrev pub bookDesk : Book → Desk
-bookDesk b = freshDesk (b .settings)
+abbrev pub bookDesk : List ℕ → Book → Desk
+bookDesk s b = freshDesk (b .settings) (bookBoard s b)
 
 -- the plays of a book
 abbrev pub bookPlays : List ℕ → Book → List Play
-bookPlays s b = plays (bookBoard s b) (eventsOf s b) (bookDesk b)
+bookPlays s b = plays (bookBoard s b) (eventsOf s b) (bookDesk s b)
 
 -- the desk after a book's last event
 abbrev pub bookEnd : List ℕ → Book → Desk
-bookEnd s b = lastPlay (done 0 (bookDesk b)) (bookPlays s b) .desk
+bookEnd s b = lastPlay (done 0 (bookDesk s b)) (bookPlays s b) .desk
 
 unfoldable pub printoutBy : List ℕ → Book → List ℕ
 printoutBy s b =

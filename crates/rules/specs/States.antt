@@ -64,16 +64,16 @@ isNotFlag Chording = false
 isNotFlag ChordingNotFlag = true
 isNotFlag DownUpAfterChording = false
 
--- a fresh position: Ready, the mouse up, every count 0
-abbrev pub freshOf : Settings → Position
-freshOf s = record {
+-- a fresh position: Ready, the mouse up, every count 0 but that of the safe cells still closed
+abbrev pub freshOf : Settings → ℕ → Position
+freshOf s unopened = record {
   settings = s;
   game = Ready;
   mouse = UpUp;
   middle = false;
   preflags = 0;
   events = 0;
-  counts = record { left = 0; right = 0; double = 0; lce = 0; dce = 0; flag = 0 };
+  counts = record { left = 0; right = 0; double = 0; lce = 0; dce = 0; flag = 0; unopened = unopened };
   secrets = record { rce = 0; «solved_left» = 0; «solved_chord» = 0 };
 }
 
@@ -99,22 +99,25 @@ abbrev pub withSecrets : Position → Secrets → Position
 withSecrets p k = record { settings = p .settings; game = p .game; mouse = p .mouse; middle = p .middle; preflags = p .preflags; events = p .events; counts = p .counts; secrets = k }
 
 abbrev pub withLeft : Position → ℕ → Position
-withLeft p n = withCounts p (record { left = n; right = p .counts .right; double = p .counts .double; lce = p .counts .lce; dce = p .counts .dce; flag = p .counts .flag })
+withLeft p n = withCounts p (record { left = n; right = p .counts .right; double = p .counts .double; lce = p .counts .lce; dce = p .counts .dce; flag = p .counts .flag; unopened = p .counts .unopened })
 
 abbrev pub withRight : Position → ℕ → Position
-withRight p n = withCounts p (record { left = p .counts .left; right = n; double = p .counts .double; lce = p .counts .lce; dce = p .counts .dce; flag = p .counts .flag })
+withRight p n = withCounts p (record { left = p .counts .left; right = n; double = p .counts .double; lce = p .counts .lce; dce = p .counts .dce; flag = p .counts .flag; unopened = p .counts .unopened })
 
 abbrev pub withDouble : Position → ℕ → Position
-withDouble p n = withCounts p (record { left = p .counts .left; right = p .counts .right; double = n; lce = p .counts .lce; dce = p .counts .dce; flag = p .counts .flag })
+withDouble p n = withCounts p (record { left = p .counts .left; right = p .counts .right; double = n; lce = p .counts .lce; dce = p .counts .dce; flag = p .counts .flag; unopened = p .counts .unopened })
 
 abbrev pub withLce : Position → ℕ → Position
-withLce p n = withCounts p (record { left = p .counts .left; right = p .counts .right; double = p .counts .double; lce = n; dce = p .counts .dce; flag = p .counts .flag })
+withLce p n = withCounts p (record { left = p .counts .left; right = p .counts .right; double = p .counts .double; lce = n; dce = p .counts .dce; flag = p .counts .flag; unopened = p .counts .unopened })
 
 abbrev pub withDce : Position → ℕ → Position
-withDce p n = withCounts p (record { left = p .counts .left; right = p .counts .right; double = p .counts .double; lce = p .counts .lce; dce = n; flag = p .counts .flag })
+withDce p n = withCounts p (record { left = p .counts .left; right = p .counts .right; double = p .counts .double; lce = p .counts .lce; dce = n; flag = p .counts .flag; unopened = p .counts .unopened })
 
 abbrev pub withFlag : Position → ℕ → Position
-withFlag p n = withCounts p (record { left = p .counts .left; right = p .counts .right; double = p .counts .double; lce = p .counts .lce; dce = p .counts .dce; flag = n })
+withFlag p n = withCounts p (record { left = p .counts .left; right = p .counts .right; double = p .counts .double; lce = p .counts .lce; dce = p .counts .dce; flag = n; unopened = p .counts .unopened })
+
+abbrev pub withUnopened : Position → ℕ → Position
+withUnopened p n = withCounts p (record { left = p .counts .left; right = p .counts .right; double = p .counts .double; lce = p .counts .lce; dce = p .counts .dce; flag = p .counts .flag; unopened = n })
 
 abbrev pub withRce : Position → ℕ → Position
 withRce p n = withSecrets p (record { rce = n; «solved_left» = p .secrets .«solved_left»; «solved_chord» = p .secrets .«solved_chord» })
@@ -125,7 +128,7 @@ withSolvedLeft p n = withSecrets p (record { rce = p .secrets .rce; «solved_lef
 abbrev pub withSolvedChord : Position → ℕ → Position
 withSolvedChord p n = withSecrets p (record { rce = p .secrets .rce; «solved_left» = p .secrets .«solved_left»; «solved_chord» = n })
 
--- back to Ready with the counts cleared, but for the solved counts, the pre-flag count and the events
+-- back to Ready with the counts cleared, but for the safe cells still closed, the solved counts, the pre-flag count and the events
 abbrev pub zeroed : Position → Position
 zeroed p = record {
   settings = p .settings;
@@ -134,6 +137,6 @@ zeroed p = record {
   middle = p .middle;
   preflags = p .preflags;
   events = p .events;
-  counts = record { left = 0; right = 0; double = 0; lce = 0; dce = 0; flag = 0 };
+  counts = record { left = 0; right = 0; double = 0; lce = 0; dce = 0; flag = 0; unopened = p .counts .unopened };
   secrets = record { rce = 0; «solved_left» = p .secrets .«solved_left»; «solved_chord» = p .secrets .«solved_chord» };
 }

@@ -1,7 +1,7 @@
 // The game's nouns: the position by value, the event whose cases hold a pointer, the answers; and the position with one part changed.
 // The contracts cite specs/States.antt, which gives document 01's number for every state.
 ghost use mathlib.Core.Path.{_≡_};
-ghost use Rattle.rules.specs.States.{gameNumber, gameAt, mouseNumber, mouseAt, withGame, withMouse, withMiddle, withPreflags, withEvents, withLeft, withRight, withDouble, withLce, withDce, withFlag, withRce, withSolvedLeft, withSolvedChord, zeroed, freshOf};
+ghost use Rattle.rules.specs.States.{gameNumber, gameAt, mouseNumber, mouseAt, withGame, withMouse, withMiddle, withPreflags, withEvents, withLeft, withRight, withDouble, withLce, withDce, withFlag, withUnopened, withRce, withSolvedLeft, withSolvedChord, zeroed, freshOf};
 ghost use Rattle.rules.specs.Board.{rowByte, columnByte};
 
 pub enum GameState {
@@ -65,6 +65,8 @@ pub struct Counts {
     pub lce: u32,
     pub dce: u32,
     pub flag: u32,
+    // Safe cells that do not show 0 to 8.
+    pub unopened: u32,
 }
 
 // The counts that know hidden mines: shown only after the game.
@@ -85,10 +87,9 @@ pub struct Position {
     pub secrets: Secrets,
 }
 
-// What an action of the hand answers, how many cells it opened, and the position that it leaves.
+// What an action of the hand answers, and the position that it leaves.
 pub struct Played {
     pub answer: u16,
-    pub opened: u32,
     pub position: Position,
 }
 
@@ -207,9 +208,9 @@ pub fn column_byte(x: Place) -> u8
     }
 }
 
-// The position of a game that nobody has touched.
-pub fn fresh(settings: Settings) -> Position
-    ensures { λ r. ⌜ r ≡ freshOf settings ⌝ }
+// The position of a game that nobody has touched, with so many safe cells.
+pub fn fresh(settings: Settings, unopened: u32) -> Position
+    ensures { λ r. ⌜ r ≡ freshOf settings unopened ⌝ }
 {
     let counts = Counts {
         left: 0,
@@ -218,6 +219,7 @@ pub fn fresh(settings: Settings) -> Position
         lce: 0,
         dce: 0,
         flag: 0,
+        unopened,
     };
     let secrets = Secrets {
         rce: 0,
@@ -338,6 +340,13 @@ impl Position {
         self
     }
 
+    pub fn with_unopened(mut self, n: u32) -> Position
+        ensures { λ r. ⌜ r ≡ withUnopened self n ⌝ }
+    {
+        self.counts.unopened = n;
+        self
+    }
+
     pub fn with_rce(mut self, n: u32) -> Position
         ensures { λ r. ⌜ r ≡ withRce self n ⌝ }
     {
@@ -359,7 +368,7 @@ impl Position {
         self
     }
 
-    // Back to Ready with the counts cleared, but for the solved counts, the pre-flag count and the events.
+    // Back to Ready with the counts cleared, but for the safe cells still closed, the solved counts, the pre-flag count and the events.
     pub fn zeroed(self) -> Position
         ensures { λ r. ⌜ r ≡ zeroed self ⌝ }
     {
@@ -377,6 +386,7 @@ impl Position {
             lce: 0,
             dce: 0,
             flag: 0,
+            unopened: self.counts.unopened,
         };
         Position {
             settings,

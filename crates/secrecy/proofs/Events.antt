@@ -3,7 +3,6 @@ use mathlib.Core.Path.{_≡_, refl, sym, ap, _∙_}
 use mathlib.Core.List.{List}
 use mathlib.Core.Bool.{Bool, true, false, not, _&&_}
 use Prim.Native.Nat.{ℕ, _+_, _-_}
-use native.Mathlib.Omega.{arith}
 use lib.ListN.{getD}
 use lib.IntN.{ℤ}
 use lib.Dec.{leb, eqb}
@@ -208,7 +207,7 @@ pre-cell-quiet i s e =
     (λ n. branch aPlay false (s .shown) (eqb (getD (s .shown) i 0) 11)
     (λ t. branch aPlay false (s .shown) (not (s .position .settings .question) && eqb (s .position .preflags) 1)
     (λ _. one-cell aPlay false (s .shown) (λ B h. done 0 (lastTakenBack i (over s h))) (done 0 (lastTakenBack i s)) i 10 (λ B h. refl) refl refl
-    (λ k. flag-unknown k (eqb-true (getD (s .shown) i 0) 11 t)) (omega arith))
+    (λ k. flag-unknown k (eqb-true (getD (s .shown) i 0) 11 t)))
     (λ _. right-quiet i (on s (withPreflags (s .position) (s .position .preflags - 1))) e))
     (λ _. take-back-cleared-quiet i (eqb (s .position .preflags) 0) s e n))
 

@@ -11,67 +11,14 @@ use Rattle.rules.specs.declared.Settings.{Settings}
 use Rattle.rules.specs.Words.{count, every, inOrder, stackOf, rounds}
 use Rattle.rules.specs.States.{gameNumber, mouseAt}
 use Rattle.rules.specs.Grid.{sizeOk, ninth, cellBefore, neighbour, around, pushed}
-use Rattle.rules.specs.Board.{faceAt, zeroAt, loneAt, valuesOk, numberOk, numbersOk, someSafe, boardRefusal, boardCheck}
+use Rattle.rules.specs.Board.{faceAt, zeroAt, loneAt, valuesOk, numberOk, numbersOk, someSafe, safeIn, boardRefusal, boardCheck}
 use Rattle.rules.specs.Lent.{bitAt, withBit}
-use Rattle.rules.specs.Opening.{shownAfter, stackAfter, hitAfter, run, crossed, refreshed}
+use Rattle.rules.specs.Opening.{shownAfter, stackAfter, hitAfter, run, crossed, refreshed, countShown}
 use Rattle.rules.specs.Judging.{freeAt, kind, walk, walkFrom, judgedLeft, judgeOne, tally, openingsJudged, lones}
-use Rattle.rules.specs.Clicks.{Play, isWon, ended, solvesLeft, leftOpens, leftClick, bitsWith, addsRce, takeBack, chordIsUseful, chordOpens, performChord}
-use Rattle.rules.specs.Passes.{
-  allClosed,
-  ripeAt,
-  listed,
-  flagOne,
-  flagAll,
-  flagRound,
-  flagPass,
-  chordOne,
-  chordScan,
-  chordRound,
-  chordPass,
-  bothRound,
-  bothPass,
-  passesAfterFlag,
-  passesAfterChord,
-  rightClick,
-  chordingClick,
-}
+use Rattle.rules.specs.Clicks.{Play, ended, solvesLeft, leftOpens, leftClick, bitsWith, addsRce, takeBack, chordIsUseful, chordOpens, performChord}
+use Rattle.rules.specs.Passes.{allClosed, ripeAt, listed, flagOne, flagAll, flagRound, flagPass, chordOne, chordScan, chordRound, chordPass, bothRound, bothPass, passesAfterFlag, passesAfterChord, rightClick, chordingClick}
 use Rattle.rules.specs.Mouse.{mouseTable, nextMouse, moved, bothDown, resolved, flipped}
-use Rattle.rules.specs.Step.{
-  seenAt,
-  leftAt,
-  rightAt,
-  chordAt,
-  chordFrom,
-  playLc,
-  playLr,
-  playRc,
-  playRr,
-  playing,
-  preFlag,
-  readyLc,
-  readyRc,
-  ready,
-  preLeft,
-  preLr,
-  preCell,
-  preRight,
-  preRc,
-  preFlaging,
-  byGame,
-  pointerOf,
-  eventOf,
-  errsPlaying,
-  errsPreFlaging,
-  badPreFlag,
-  eventRefusal,
-  plainOf,
-  refusalAt,
-  playAt,
-  stepAt,
-  stepBy,
-  stepOn,
-}
-use Rattle.rules.specs.Lawful.{countShown}
+use Rattle.rules.specs.Step.{seenAt, leftAt, rightAt, chordAt, chordFrom, playLc, playLr, playRc, playRr, playing, preFlag, readyLc, readyRc, ready, preLeft, preLr, preCell, preRight, preRc, preFlaging, byGame, pointerOf, eventOf, errsPlaying, errsPreFlaging, badPreFlag, eventRefusal, plainOf, refusalAt, playAt, stepAt, stepBy, stepOn}
 use Rattle.rules.specs.Calls.{plays, cellsIn}
 use Rattle.cells.proofs.Words.{every-at}
 use Rattle.secrecy.specs.Demand.{Seen, seenAll, seenOf, playsOn, game, stopped, lastDesk, endOf, AgreeWhere, AgreeOpen, AgreeFlag}
@@ -88,7 +35,7 @@ last-seen n (x ∷ xs) = last-seen (100 * gameNumber (x .game) + getD (x .shown)
 pub record Pair (ending : Settings → List ℕ → List ℤ → List Play) (s : Settings) (events : List ℕ) (A B : List ℤ) (shown : List ℕ) (a b : ℕ) : Type 0 where
   pub first : boardCheck (s .rows) (s .columns) A ≡ 0
   pub second : boardCheck (s .rows) (s .columns) B ≡ 0
-  pub ends : endOf s (ending s events A) ≡ shown
+  pub ends : endOf s A (ending s events A) ≡ shown
   pub seenA : last-seen 0 (seenOf s (game s events A)) ≡ a
   pub seenB : last-seen 0 (seenOf s (game s events B)) ≡ b
 
@@ -96,7 +43,7 @@ module _ {ending : Settings → List ℕ → List ℤ → List Play} {s : Settin
     (c : Pair ending s events A B shown a b) where
   -- agreement at the values that pass p
   agree-by : (P : ℕ → Type 0) (p : ℕ → Bool) → ((x : ℕ) → P x → p x ≡ true)
-      → every (λ i. not (p (getD shown i 0)) || eqb (faceAt A i) (faceAt B i)) (cellsIn s) ≡ true → AgreeWhere P s (endOf s (ending s events A)) A B
+      → every (λ i. not (p (getD shown i 0)) || eqb (faceAt A i) (faceAt B i)) (cellsIn s) ≡ true → AgreeWhere P s (endOf s A (ending s events A)) A B
   agree-by P p f t i l k =
       go (p (getD shown i 0)) (f (getD shown i 0) (rw (c .ends) at k)) (every-at (λ i. not (p (getD shown i 0)) || eqb (faceAt A i) (faceAt B i)) (cellsIn s) t i l)
     where
@@ -104,15 +51,15 @@ module _ {ending : Settings → List ℕ → List ℤ → List Play} {s : Settin
       go true t e = eqb-true (faceAt A i) (faceAt B i) e
       go false t e = absurd (false≢true t)
 
-  pub open-agree : every (λ i. not (leb (getD shown i 0) 8) || eqb (faceAt A i) (faceAt B i)) (cellsIn s) ≡ true → AgreeOpen s (endOf s (ending s events A)) A B
+  pub open-agree : every (λ i. not (leb (getD shown i 0) 8) || eqb (faceAt A i) (faceAt B i)) (cellsIn s) ≡ true → AgreeOpen s (endOf s A (ending s events A)) A B
   open-agree = agree-by (λ x. x ≤ 8) (λ x. leb x 8) (λ x. le-leb x 8)
 
   pub agree-at : (v : ℕ) → every (λ i. not (eqb (getD shown i 0) v) || eqb (faceAt A i) (faceAt B i)) (cellsIn s) ≡ true
-      → AgreeWhere (λ x. x ≡ v) s (endOf s (ending s events A)) A B
+      → AgreeWhere (λ x. x ≡ v) s (endOf s A (ending s events A)) A B
   agree-at v = agree-by (λ x. x ≡ v) (λ x. eqb x v) (λ x. eq-eqb x v)
 
   -- where no cell shows 15, nothing is asked of the flags
-  pub no-hit : every (λ i. not (eqb (getD shown i 0) 15)) (cellsIn s) ≡ true → AgreeFlag s (endOf s (ending s events A)) A B
+  pub no-hit : every (λ i. not (eqb (getD shown i 0) 15)) (cellsIn s) ≡ true → AgreeFlag s (endOf s A (ending s events A)) A B
   no-hit t k l q =
       absurd (true≢false (sym (every-at (λ i. not (eqb (getD shown i 0) 15)) (cellsIn s) t k l) ∙ ap not (eq-eqb (getD shown k 0) 15 (rw (c .ends) at q))))
 
@@ -188,7 +135,7 @@ pub record Games : Type 0 where
 
 pub games : Games
 unfolding last-seen heard sums countShown seenAll playsOn lastDesk count every inOrder stackOf rounds mouseAt sizeOk ninth cellBefore neighbour around pushed zeroAt loneAt valuesOk numberOk numbersOk someSafe boardRefusal boardCheck bitAt withBit shownAfter stackAfter
-    hitAfter run crossed refreshed freeAt kind walk walkFrom judgedLeft judgeOne tally openingsJudged lones isWon ended solvesLeft leftOpens leftClick bitsWith
+    hitAfter run crossed refreshed freeAt kind walk walkFrom judgedLeft judgeOne tally openingsJudged lones safeIn ended solvesLeft leftOpens leftClick bitsWith
     addsRce takeBack chordIsUseful chordOpens performChord allClosed ripeAt listed flagOne flagAll flagRound flagPass chordOne chordScan chordRound chordPass
     bothRound bothPass passesAfterFlag passesAfterChord rightClick chordingClick mouseTable nextMouse moved bothDown resolved flipped seenAt leftAt rightAt
     chordAt chordFrom playLc playLr playRc playRr playing preFlag readyLc readyRc ready preLeft preLr preCell preRight preRc preFlaging byGame pointerOf

@@ -2,8 +2,7 @@
 use mathlib.Core.Path.{_≡_, refl, sym, ap}
 use mathlib.Core.List.{List, [], _∷_}
 use mathlib.Core.Bool.{Bool, true, false, false≢true}
-use Prim.Native.Nat.{ℕ, zero, suc, _+_, _≤_}
-use native.Mathlib.Omega.{arith}
+use Prim.Native.Nat.{ℕ, zero, suc, _+_}
 use lib.ListN.{getD, set}
 use lib.IntN.{ℤ}
 use lib.Dec.{eqb}
@@ -23,7 +22,7 @@ use Rattle.rules.specs.Clicks.{
   rowsOf,
   columnsOf,
   cellsOf,
-  isWon,
+  uncovered,
   ended,
   addLeft,
   leftCounts,
@@ -89,7 +88,7 @@ use Rattle.secrecy.proofs.Quiet.{
   only,
   rounds-quiet,
 }
-use Rattle.secrecy.proofs.Opens.{closed-unknown, flag-unknown, question-unknown, opening-shows, endedBy, ended-quiet}
+use Rattle.secrecy.proofs.Opens.{closed-unknown, flag-unknown, question-unknown, opening-shows, by-answer, ended-quiet}
 
 -- ---- nothing is done, or only counts and states change -----------------------------------------------------------------------------------
 
@@ -151,7 +150,7 @@ flag-one-quiet i s =
     (λ t. one-cell aDesk (lostIn s) (s .shown)
     (λ B h. desk (withFlag (over s h .position) (s .position .counts .flag + 1)) (set (s .shown) i 11) (bitsWith B (h .bits) i))
     (desk (withFlag (s .position) (s .position .counts .flag + 1)) (set (s .shown) i 11) []) i 11
-    (λ B h. refl) refl refl (λ k. closed-unknown k (eqb-true (getD (s .shown) i 0) 10 t)) (omega arith))
+    (λ B h. refl) refl refl (λ k. closed-unknown k (eqb-true (getD (s .shown) i 0) 10 t)))
     (λ _. stay s)
 
 flag-all-quiet : (st : List ℕ) (s : Desk) → Quiet aDesk (lostIn s) (s .shown) (λ B h. flagAll B st (over s h))
@@ -187,12 +186,7 @@ chord-answers : (B : List ℤ) (cells : List ℕ) (d : Desk) → eqb (chordOpens
 unfolding chordOpens ended
 chord-answers B cells d =
     let o = refreshed B (rowsOf d) (columnsOf d) cells (d .shown) in
-    go (o .hit) (isWon B (o .shown)) (chordCounts B cells d) (o .shown)
-  where
-    go : (h w : Bool) (d : Desk) (shown : List ℕ) → eqb (endedBy h w 3 d shown .answer) 0 ≡ false
-    go true w d shown = refl
-    go false true d shown = refl
-    go false false d shown = refl
+    by-answer (o .hit) 3 (uncovered (chordCounts B cells d) (o .shown)) refl
 
 noted-quiet : (i : ℕ) (s : Scan) → lostIn (s .desk) ≡ false → Quiet aScan false (s .desk .shown) (λ B h. noted (aScan .put s h) (performChord B i (over (s .desk) h)))
 unfolding performChord
@@ -273,18 +267,17 @@ after-chord-quiet s =
 -- 10 to 11
 flag-quiet : (i : ℕ) (s : Desk) → lostIn s ≡ false → closedAt (s .shown) i ≡ true → Quiet aDesk false (s .shown) (λ B h. flagged B i (over s h))
 flag-quiet i s e t =
-    one-cell aDesk false (s .shown) (λ B h. flagged B i (over s h)) (flagged [] i s) i 11 (λ B h. refl) e refl (λ k. closed-unknown k (eqb-true (getD (s .shown) i 0) 10 t)) (omega arith)
+    one-cell aDesk false (s .shown) (λ B h. flagged B i (over s h)) (flagged [] i s) i 11 (λ B h. refl) e refl (λ k. closed-unknown k (eqb-true (getD (s .shown) i 0) 10 t))
 
 pub take-back-quiet : (i : ℕ) (s : Desk) → lostIn s ≡ false → Quiet aPlay false (s .shown) (λ B h. takeBack i (over s h))
 unfolding takeBack
 take-back-quiet i s e =
     branch aPlay false (s .shown) (eqb (getD (s .shown) i 0) 11)
     (λ t. one-cell aPlay false (s .shown) (λ B h. done 1 (unflagged i (over s h))) (done 1 (unflagged i s)) i (pick (s .position .settings .question) 17 10)
-    (λ B h. refl) e refl (λ k. flag-unknown k (eqb-true (getD (s .shown) i 0) 11 t))
-    (pick-both (λ (v : ℕ). 10 ≤ v) (s .position .settings .question) 17 10 (λ _. omega arith) (λ _. omega arith)))
+    (λ B h. refl) e refl (λ k. flag-unknown k (eqb-true (getD (s .shown) i 0) 11 t)))
     (λ _. branch aPlay false (s .shown) (eqb (getD (s .shown) i 0) 17)
     (λ t. one-cell aPlay false (s .shown) (λ B h. done 1 (showing (over s h) (set (s .shown) i 10))) (done 1 (showing s (set (s .shown) i 10))) i 10
-    (λ B h. refl) e refl (λ k. question-unknown k (eqb-true (getD (s .shown) i 0) 17 t)) (omega arith))
+    (λ B h. refl) e refl (λ k. question-unknown k (eqb-true (getD (s .shown) i 0) 17 t)))
     (λ _. idle false 0 s e))
 
 -- a flag taken back leaves the game state

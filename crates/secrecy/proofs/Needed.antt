@@ -13,7 +13,7 @@ use Rattle.secrecy.proofs.Games.{last-seen, Pair, open-agree, agree-at,
 
 -- a pair that is told apart by what is seen last
 not-enough : {ending : Settings → List ℕ → List ℤ → List Play} {s : Settings} {events : List ℕ} {A B : List ℤ} {shown : List ℕ} {a b : ℕ}
-    → Pair ending s events A B shown a b → (Met : Settings → List ℕ → List ℤ → List ℤ → Type 0) → Met s (endOf s (ending s events A)) A B → (a ≡ b → ⊥) → NotEnough ending Met
+    → Pair ending s events A B shown a b → (Met : Settings → List ℕ → List ℤ → List ℤ → Type 0) → Met s (endOf s A (ending s events A)) A B → (a ≡ b → ⊥) → NotEnough ending Met
 not-enough {s = s} {events = events} {A = A} {B = B} c Met m n = record {
   s = s;
   events = events;

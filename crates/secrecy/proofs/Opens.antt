@@ -1,24 +1,23 @@
--- Opening is quiet: it shows the board only where its result is known, and two boards that agree there open alike and end alike, since
--- equally many mines and the same open cells leave equally many safe cells. Assumes nothing.
-use mathlib.Core.Path.{_≡_, refl, sym, ap, _∙_, subst}
+-- Opening is quiet: it shows the board only where its result is known, and two boards that agree there open alike and end alike, since the end
+-- reads the number of safe cells still closed, which is seen. Assumes nothing.
+use mathlib.Core.Path.{_≡_, refl, sym, ap, _∙_}
 use mathlib.Core.Logic.{_⊎_, inl, inr}
 use mathlib.Core.List.{List, [], _∷_}
 use mathlib.Core.Bool.{Bool, true, false, not, _&&_, _||_, false≢true}
-use Prim.Native.Nat.{ℕ, zero, suc, _+_, _*_, _<_, _≤_}
+use Prim.Native.Nat.{ℕ, zero, suc, _+_, _*_, _≤_}
 use native.Mathlib.Omega.{arith}
 use lib.ListN.{getD, length, set}
 use lib.IntN.{ℤ}
-use lib.Dec.{ltb, eqb}
-use borrow.Author.Tests.{eqb-true, ne-eqb, ltb-true}
+use lib.Dec.{eqb}
+use borrow.Author.Tests.{eqb-true}
 use Rattle.rules.specs.declared.GameState.the-variants.{Win, Loss}
-use Rattle.rules.specs.Words.{pick, count}
+use Rattle.rules.specs.Words.{pick}
 use Rattle.rules.specs.Grid.{pushed}
 use Rattle.rules.specs.Board.{faceAt, mineAt}
 use Rattle.rules.specs.States.{withGame}
 use Rattle.rules.specs.Opening.{closedAt, Opened, shownAfter, stackAfter, hitAfter, run, turns, wrongFlag, crossed, crossedIfHit, refreshed}
-use Rattle.rules.specs.Clicks.{Desk, Play, desk, done, showing, doneAt, isWon, ended}
+use Rattle.rules.specs.Clicks.{Desk, done, on, uncovered, endsBy, ended}
 use Rattle.cells.specs.Ground.{Valued}
-use Rattle.opening.specs.Changed.{Changed, kept, opened, wrong as wrong-flag}
 use Rattle.opening.proofs.Cost.{face-range}
 use Rattle.opening.proofs.Opening.{
   after-opens,
@@ -26,11 +25,9 @@ use Rattle.opening.proofs.Opening.{
   Crosses,
   crossed-crosses,
   opening-length,
-  opening-changes,
   opening-keeps-open,
   opening-hit-shows,
 }
-use Rattle.secrecy.proofs.Lists.{count-or, every-count}
 use Rattle.secrecy.proofs.Quiet.{Hidden, bare, over, aPlay, Known, number, wrong, hit, flag, lostIn, Two, Inv, Agree, Quiet}
 
 -- ---- what is known and what is not -------------------------------------------------------------------------------------------------------
@@ -189,82 +186,73 @@ module _ (B : List ℤ) (v : Valued B) (R C : ℕ) (given shown : List ℕ) wher
       a-turn : turns (R * C) ≡ suc (8 * (R * C) + 7)
       a-turn = omega arith
 
-  changed-safe : (j : ℕ) {h : Bool} {x y : ℕ} → Changed B h j x y → (x < 10 → mineAt B j ≡ false) → y < 10 → mineAt B j ≡ false
-  changed-safe j kept s l = s l
-  changed-safe j opened s l = ne-eqb (faceAt B j) 15 (λ e. omega arith)
-  changed-safe j (wrong-flag t m) s l = m
-
   opening-inv : Inv B false shown → Inv B (refreshed B R C given shown .hit) (refreshed B R C given shown .shown)
   opening-inv inv = record {
     long = opening-length B R C given shown ∙ inv .long;
-    safe = λ j. changed-safe j (opening-changes B R C given shown v j) (inv .safe j);
     struck = λ t. let w = opening-hit-shows B R C given shown t in (w .0, w .1 .1 .1);
   }
 
 -- ---- the end of an opening ---------------------------------------------------------------------------------------------------------------
 
--- mines and open cells are all the cells
-won-count : (B : List ℤ) (shown : List ℕ) → ((j : ℕ) → getD shown j 0 < 10 → mineAt B j ≡ false)
-    → isWon B shown ≡ eqb (count (mineAt B) (length shown) + count (λ i. ltb (getD shown i 0) 10) (length shown)) (length shown)
-unfolding isWon
-won-count B shown safe =
-    every-count (doneAt B shown) (length shown)
-    ∙ ap (λ (n : ℕ). eqb n (length shown)) (count-or (mineAt B) (λ i. ltb (getD shown i 0) 10) (λ i e. safe i (ltb-true (getD shown i 0) 10 e)) (length shown))
-
--- no safe cell is left on one board exactly if none is on the other
-won-same : (A B : List ℤ) (shown : List ℕ) (a b : Bool) → Two A B → Inv A a shown → Inv B b shown → isWon A shown ≡ isWon B shown
-won-same A B shown a b two ia ib =
-    won-count A shown (ia .safe)
-    ∙ (ap (λ (n : ℕ). eqb (n + count (λ i. ltb (getD shown i 0) 10) (length shown)) (length shown)) many
-    ∙ sym (won-count B shown (ib .safe)))
+-- the end leaves the board, is Loss where a mine was hit, and reads nothing hidden
+by-shown : (h : Bool) (n : ℕ) (d : Desk) → endsBy h n d .desk .shown ≡ d .shown
+by-shown h n d = go h (eqb (d .position .counts .unopened) 0)
   where
-    many : count (mineAt A) (length shown) ≡ count (mineAt B) (length shown)
-    many = ap (count (mineAt A)) (ia .long) ∙ (two .mines ∙ ap (count (mineAt B)) (sym (ib .long)))
+    go : (h w : Bool) → pick h (done 4 (on d (withGame (d .position) Loss))) (pick w (done n (on d (withGame (d .position) Win))) (done n d)) .desk .shown ≡ d .shown
+    go true w = refl
+    go false true = refl
+    go false false = refl
 
--- the end by its two tests
-abbrev pub endedBy : Bool → Bool → ℕ → Desk → List ℕ → Play
-endedBy h w n d shown =
-    pick h (done 4 (desk (withGame (d .position) Loss) shown (d .bits))) (pick w (done n (desk (withGame (d .position) Win) shown (d .bits))) (done n (showing d shown)))
+by-lost : (h : Bool) (n : ℕ) (d : Desk) → lostIn d ≡ false → lostIn (endsBy h n d .desk) ≡ h
+by-lost h n d e = go h (eqb (d .position .counts .unopened) 0)
+  where
+    go : (h w : Bool) → lostIn (pick h (done 4 (on d (withGame (d .position) Loss))) (pick w (done n (on d (withGame (d .position) Win))) (done n d)) .desk) ≡ h
+    go true w = refl
+    go false true = refl
+    go false false = e
 
-by-shown : (h w : Bool) (n : ℕ) (d : Desk) (shown : List ℕ) → endedBy h w n d shown .desk .shown ≡ shown
-by-shown true w n d shown = refl
-by-shown false true n d shown = refl
-by-shown false false n d shown = refl
+pub by-answer : (h : Bool) (n : ℕ) (d : Desk) → eqb n 0 ≡ false → eqb (endsBy h n d .answer) 0 ≡ false
+by-answer h n d e = go h (eqb (d .position .counts .unopened) 0)
+  where
+    go : (h w : Bool) → eqb (pick h (done 4 (on d (withGame (d .position) Loss))) (pick w (done n (on d (withGame (d .position) Win))) (done n d)) .answer) 0 ≡ false
+    go true w = refl
+    go false true = e
+    go false false = e
 
-by-lost : (h w : Bool) (n : ℕ) (d : Desk) (shown : List ℕ) → lostIn d ≡ false → lostIn (endedBy h w n d shown .desk) ≡ h
-by-lost true w n d shown e = refl
-by-lost false true n d shown e = refl
-by-lost false false n d shown e = e
+by-bare : (h : Bool) (n : ℕ) (d : Desk) → aPlay .put (endsBy h n d) bare ≡ endsBy h n (over d bare)
+by-bare h n d = go h (eqb (d .position .counts .unopened) 0)
+  where
+    go : (h w : Bool)
+        → aPlay .put (pick h (done 4 (on d (withGame (d .position) Loss))) (pick w (done n (on d (withGame (d .position) Win))) (done n d))) bare
+        ≡ pick h (done 4 (on (over d bare) (withGame (over d bare .position) Loss))) (pick w (done n (on (over d bare) (withGame (over d bare .position) Win))) (done n (over d bare)))
+    go true w = refl
+    go false true = refl
+    go false false = refl
 
-by-same : (h w : Bool) (n : ℕ) (d e : Desk) (shown : List ℕ) → over d bare ≡ over e bare
-    → aPlay .put (endedBy h w n d shown) bare ≡ aPlay .put (endedBy h w n e shown) bare
-by-same true w n d e shown q = ap (λ (x : Desk). done 4 (desk (withGame (x .position) Loss) shown [])) q
-by-same false true n d e shown q = ap (λ (x : Desk). done n (desk (withGame (x .position) Win) shown [])) q
-by-same false false n d e shown q = ap (λ (x : Desk). done n (desk (x .position) shown [])) q
+by-same : (h : Bool) (n : ℕ) (d e : Desk) (shown : List ℕ) → over d bare ≡ over e bare
+    → aPlay .put (endsBy h n (uncovered d shown)) bare ≡ aPlay .put (endsBy h n (uncovered e shown)) bare
+by-same h n d e shown q =
+    by-bare h n (uncovered d shown) ∙ (ap (λ (x : Desk). endsBy h n (uncovered x shown)) q ∙ sym (by-bare h n (uncovered e shown)))
 
 -- cells opened in a game that is not lost; the desk that they are opened on may read the board where the opening shows it
 pub ended-quiet : (R C n : ℕ) (given shown : List ℕ) (δ : List ℤ → Hidden → Desk)
     → ((B : List ℤ) (h : Hidden) → lostIn (δ B h) ≡ false)
     → ((A B : List ℤ) (h k : Hidden) → Two A B → Agree A B false (refreshed A R C given shown .shown) → over (δ A h) bare ≡ over (δ B k) bare)
-    → Quiet aPlay false shown (λ B h. ended B n (δ B h) (refreshed B R C given shown))
+    → Quiet aPlay false shown (λ B h. ended n (δ B h) (refreshed B R C given shown))
 unfolding ended
 ended-quiet R C n given shown δ live even = record {
   knows = λ B h v inv j k. rw (ended-shown B h) (opening-knows B v R C given shown j k);
   keeps = λ B h v inv. rw (ended-shown B h, ended-lost B h) (opening-inv B v R C given shown inv);
   same = λ A B h k two ia ib agree.
       let o = refreshed A R C given shown in
-      let p = refreshed B R C given shown in
       let agree′ : Agree A B (o .hit) (o .shown) = rw (ended-shown A h, ended-lost A h) at agree in
-      let e : o ≡ p = opening-same A B R C given shown (two .valuedA) agree′ in
-      let jb : Inv B (o .hit) (o .shown) = subst (λ (x : Opened). Inv B (x .hit) (x .shown)) (sym e) (opening-inv B (two .valuedB) R C given shown ib) in
-      let w = won-same A B (o .shown) (o .hit) (o .hit) two (opening-inv A (two .valuedA) R C given shown ia) jb in
-      ap (λ (b : Bool). aPlay .put (endedBy (o .hit) b n (δ A h) (o .shown)) bare) w
-      ∙ (by-same (o .hit) (isWon B (o .shown)) n (δ A h) (δ B k) (o .shown) (even A B h k two (λ j t. agree′ j (known-lost t)))
-      ∙ ap (λ (x : Opened). aPlay .put (ended B n (δ B k) x) bare) e);
+      let e : o ≡ refreshed B R C given shown = opening-same A B R C given shown (two .valuedA) agree′ in
+      by-same (o .hit) n (δ A h) (δ B k) (o .shown) (even A B h k two (λ j t. agree′ j (known-lost t)))
+      ∙ ap (λ (x : Opened). aPlay .put (ended n (δ B k) x) bare) e;
 }
   where
-    ended-shown : (B : List ℤ) (h : Hidden) → ended B n (δ B h) (refreshed B R C given shown) .desk .shown ≡ refreshed B R C given shown .shown
-    ended-shown B h = let o = refreshed B R C given shown in by-shown (o .hit) (isWon B (o .shown)) n (δ B h) (o .shown)
+    ended-shown : (B : List ℤ) (h : Hidden) → ended n (δ B h) (refreshed B R C given shown) .desk .shown ≡ refreshed B R C given shown .shown
+    ended-shown B h = let o = refreshed B R C given shown in by-shown (o .hit) n (uncovered (δ B h) (o .shown))
 
-    ended-lost : (B : List ℤ) (h : Hidden) → lostIn (ended B n (δ B h) (refreshed B R C given shown) .desk) ≡ refreshed B R C given shown .hit
-    ended-lost B h = let o = refreshed B R C given shown in by-lost (o .hit) (isWon B (o .shown)) n (δ B h) (o .shown) (live B h)
+    ended-lost : (B : List ℤ) (h : Hidden) → lostIn (ended n (δ B h) (refreshed B R C given shown) .desk) ≡ refreshed B R C given shown .hit
+    ended-lost B h = let o = refreshed B R C given shown in by-lost (o .hit) n (uncovered (δ B h) (o .shown)) (live B h)

@@ -4,19 +4,17 @@
 use mathlib.Core.Path.{_≡_, refl, sym, ap, _∙_, subst}
 use mathlib.Core.List.{List, []}
 use mathlib.Core.Bool.{Bool, true, false}
-use Prim.Native.Nat.{ℕ, zero, suc, _<_, _≤_}
-use native.Mathlib.Omega.{arith}
+use Prim.Native.Nat.{ℕ, zero, suc, _≤_}
 use lib.ListN.{getD, length, set, length-set}
 use lib.Seq.{getD-set-other}
 use lib.IntN.{ℤ}
 use Rattle.rules.specs.declared.Secrets.{Secrets}
-use Rattle.rules.specs.Words.{pick, count, rounds}
+use Rattle.rules.specs.Words.{pick, rounds}
 use Rattle.rules.specs.States.{isLoss, withSecrets}
-use Rattle.rules.specs.Board.{faceAt, mineAt}
+use Rattle.rules.specs.Board.{faceAt}
 use Rattle.rules.specs.Clicks.{Desk, Play, desk, done}
 use Rattle.rules.specs.Passes.{Round, Scan}
 use Rattle.cells.specs.Ground.{Valued}
-use Rattle.secrecy.proofs.Lists.{set-law}
 
 -- ---- the hidden part of a desk, and what has a desk in it ------------------------------------------------------------------------------
 
@@ -89,12 +87,10 @@ pub record Two (A B : List ℤ) : Type 0 where
   pub valuedA : Valued A
   pub valuedB : Valued B
   pub size : length A ≡ length B
-  pub mines : count (mineAt A) (length A) ≡ count (mineAt B) (length B)
 
--- the lengths agree, open cells are safe, and a lost game shows a hit mine
+-- the lengths agree, and a lost game shows a hit mine
 pub record Inv (B : List ℤ) (lost : Bool) (shown : List ℕ) : Type 0 where
   pub long : length shown ≡ length B
-  pub safe : (j : ℕ) → getD shown j 0 < 10 → mineAt B j ≡ false
   pub struck : lost ≡ true → (j : ℕ) × (getD shown j 0 ≡ 15)
 
 -- two boards agree wherever something is known
@@ -173,9 +169,8 @@ pub plain : {Y : Type 0} (σ : Shape Y) (lost : Bool) (shown : List ℕ) (φ : L
     → ((B : List ℤ) (h : Hidden) → σ .put (φ B h) bare ≡ σ .put y bare)
     → lostIn (σ .at y) ≡ lost → length (σ .at y .shown) ≡ length shown
     → ((j : ℕ) → Known lost (getD shown j 0) → getD (σ .at y .shown) j 0 ≡ getD shown j 0)
-    → ((j : ℕ) → getD (σ .at y .shown) j 0 < 10 → getD shown j 0 < 10)
     → Quiet σ lost shown φ
-plain {Y} σ lost shown φ y e el en stays back = record {
+plain {Y} σ lost shown φ y e el en stays = record {
   knows = λ B h v inv j k. subst (KnownIn j) (at-y B h) (rw (el, stays j k) k);
   keeps = λ B h v inv. subst (InvIn B) (at-y B h) (inv-y B inv);
   same = λ A B h k two ia ib agree. e A h ∙ sym (e B k);
@@ -187,23 +182,21 @@ plain {Y} σ lost shown φ y e el en stays back = record {
     inv-y : (B : List ℤ) → Inv B lost shown → InvIn B (σ .at y)
     inv-y B inv = record {
       long = en ∙ inv .long;
-      safe = λ j l. inv .safe j (back j l);
       struck = λ t. let w = inv .struck (sym el ∙ t) in (w .0, stays (w .0) (hit (w .1)) ∙ w .1);
     }
 
 -- the same cells
 pub same-cells : {Y : Type 0} (σ : Shape Y) (lost : Bool) (shown : List ℕ) (φ : List ℤ → Hidden → Y) (y : Y)
     → ((B : List ℤ) (h : Hidden) → σ .put (φ B h) bare ≡ σ .put y bare) → lostIn (σ .at y) ≡ lost → σ .at y .shown ≡ shown → Quiet σ lost shown φ
-same-cells σ lost shown φ y e el es = plain σ lost shown φ y e el (ap length es) (λ j k. rw es) (λ j l. rw es at l)
+same-cells σ lost shown φ y e el es = plain σ lost shown φ y e el (ap length es) (λ j k. rw es)
 
--- one cell that is not known shows 10, 11 or 17 instead
+-- one cell that is not known shows something else
 pub one-cell : {Y : Type 0} (σ : Shape Y) (lost : Bool) (shown : List ℕ) (φ : List ℤ → Hidden → Y) (y : Y) (i v : ℕ)
     → ((B : List ℤ) (h : Hidden) → σ .put (φ B h) bare ≡ σ .put y bare) → lostIn (σ .at y) ≡ lost → σ .at y .shown ≡ set shown i v
-    → (Known lost (getD shown i 0) → ⊥) → 10 ≤ v → Quiet σ lost shown φ
-one-cell σ lost shown φ y i v e el es un ten =
+    → (Known lost (getD shown i 0) → ⊥) → Quiet σ lost shown φ
+one-cell σ lost shown φ y i v e el es un =
     plain σ lost shown φ y e el (ap length es ∙ length-set shown i v)
     (λ j k. rw es (getD-set-other shown i j v 0 (λ q. un (rw q at k))))
-    (λ j l. set-law (λ k x. x < 10 → getD shown k 0 < 10) shown i v j (λ a. absurd (omega arith)) (λ a. a) (rw es at l))
 
 -- a part of the result, with the same desk
 pub only : {Y Z : Type 0} (σ : Shape Y) (τ : Shape Z) (lost : Bool) (shown : List ℕ) (φ : List ℤ → Hidden → Y) (f : Y → Z)

@@ -5,20 +5,21 @@ use mathlib.Core.List.{List, [], _∷_, map}
 use mathlib.Core.Bool.{Bool, true, false, false≢true}
 use Prim.Native.Nat.{ℕ, _*_, _<_}
 use native.Mathlib.Omega.{arith}
-use lib.ListN.{getD, length, replicate, length-replicate, getD-replicate, List·getD-eq-default}
+use lib.ListN.{getD, length, replicate, length-replicate, List·getD-eq-default}
 use lib.IntN.{ℤ, pos}
 use lib.Dec.{ltb, eqb}
 use borrow.Author.Tests.{eqb-true, ltb-true, ltb-false}
 use Rattle.rules.specs.declared.Settings.{Settings}
 use Rattle.rules.specs.Words.{count}
-use Rattle.rules.specs.Board.{face, faceAt, mineAt, boardCheck}
-use Rattle.rules.specs.Clicks.{Desk, Play}
+use Rattle.rules.specs.States.{freshOf}
+use Rattle.rules.specs.Board.{face, faceAt, mineAt, safeIn, boardCheck}
+use Rattle.rules.specs.Clicks.{Desk, Play, desk}
 use Rattle.rules.specs.Calls.{freshDesk, cellsIn}
 use Rattle.cells.specs.Ground.{Valued}
 use Rattle.cells.proofs.Face.{values-valued}
 use Rattle.keep.proofs.Lawful.{board-accepted}
 use Rattle.secrecy.specs.Demand.{Seen, seen, seenAll, seenOf, lastDesk, endOf, Twins}
-use Rattle.secrecy.proofs.Lists.{entry-in}
+use Rattle.secrecy.proofs.Lists.{entry-in, count-not}
 use Rattle.secrecy.proofs.Quiet.{bare, over, hiddenOf, aPlay, number, wrong, hit, flag, lostIn, Two, KnownIn, InvIn, AgreeIn, Quiet}
 
 -- ---- a row of moves ----------------------------------------------------------------------------------------------------------------------
@@ -97,17 +98,14 @@ on-board B j = go (ltb j (length B)) refl
     go true e = inl (ltb-true j (length B) e)
     go false e = inr (ap face (List·getD-eq-default B (pos 0) {n = j} (ltb-false j (length B) e)))
 
--- nothing is open at a fresh start
-fresh-inv : (s : Settings) (B : List ℤ) → length B ≡ cellsIn s → InvIn B (freshDesk s)
-fresh-inv s B e = record {
-  long = length-replicate (cellsIn s) 10 ∙ sym e;
-  safe = λ j l. go j l (on-board B j);
-  struck = λ t. absurd (false≢true t);
-}
-  where
-    go : (j : ℕ) → getD (replicate {A = ℕ} (cellsIn s) 10) j 0 < 10 → (j < length B) ⊎ (faceAt B j ≡ 0) → mineAt B j ≡ false
-    go j l (inl h) = let z = getD-replicate {A = ℕ} (cellsIn s) j 10 0 (rw e at h) in absurd (omega arith)
-    go j l (inr z) = rw z
+-- nothing is hit at a fresh start
+fresh-inv : (s : Settings) (B : List ℤ) → length B ≡ cellsIn s → InvIn B (freshDesk s B)
+fresh-inv s B e = record { long = length-replicate (cellsIn s) 10 ∙ sym e; struck = λ t. absurd (false≢true t) }
+
+-- equally many mines leave equally many safe cells
+same-safe : (A B : List ℤ) → length A ≡ length B → count (mineAt A) (length A) ≡ count (mineAt B) (length B) → safeIn A ≡ safeIn B
+unfolding safeIn
+same-safe A B e m = omega (arith, count-not (mineAt A) (length A), count-not (mineAt B) (length B))
 
 -- ---- twins -------------------------------------------------------------------------------------------------------------------------------
 
@@ -120,10 +118,19 @@ off-board A B j e f = go (on-board A j) (on-board B j)
     go (inr z) (inl l) = f (rw e l)
     go (inr z) (inr w) = z ∙ sym w
 
+-- the fresh desks of twins look alike
+pub fresh-alike : (s : Settings) (end : List ℕ) (A B : List ℤ) → Twins s end A B → over (freshDesk s A) bare ≡ over (freshDesk s B) bare
+fresh-alike s end A B tw =
+    let a = checked (s .rows) (s .columns) A (tw .first) .0 in
+    let b = checked (s .rows) (s .columns) B (tw .second) .0 in
+    ap (λ (n : ℕ). desk (freshOf s n) (replicate (cellsIn s) 10) [])
+    (same-safe A B (a ∙ sym b) (ap (count (mineAt A)) a ∙ (tw .mines ∙ ap (count (mineAt B)) (sym b))))
+
 -- twins cannot be told apart by quiet moves: every play is the same but for what it hides
-pub twins-alike : (ms : List Move) (s : Settings) (A B : List ℤ) → Twins s (endOf s (rowOf A ms (freshDesk s))) A B
-    → map bared (rowOf A ms (freshDesk s)) ≡ map bared (rowOf B ms (freshDesk s))
-twins-alike ms s A B tw = row-alike A B two ms (freshDesk s) (freshDesk s) refl ia (fresh-inv s B (b .0)) agree
+pub twins-alike : (ms : List Move) (s : Settings) (A B : List ℤ) → Twins s (endOf s A (rowOf A ms (freshDesk s A))) A B
+    → map bared (rowOf A ms (freshDesk s A)) ≡ map bared (rowOf B ms (freshDesk s B))
+twins-alike ms s A B tw =
+    row-alike A B two ms (freshDesk s A) (freshDesk s B) (fresh-alike s (end .shown) A B tw) ia (fresh-inv s B (b .0)) agree
   where
     a : (length A ≡ cellsIn s) × Valued A
     a = checked (s .rows) (s .columns) A (tw .first)
@@ -136,17 +143,16 @@ twins-alike ms s A B tw = row-alike A B two ms (freshDesk s) (freshDesk s) refl 
       valuedA = a .1;
       valuedB = b .1;
       size = a .0 ∙ sym (b .0);
-      mines = ap (count (mineAt A)) (a .0) ∙ (tw .mines ∙ ap (count (mineAt B)) (sym (b .0)));
     }
 
-    ia : InvIn A (freshDesk s)
+    ia : InvIn A (freshDesk s A)
     ia = fresh-inv s A (a .0)
 
     end : Desk
-    end = lastDesk (freshDesk s) (rowOf A ms (freshDesk s))
+    end = lastDesk (freshDesk s A) (rowOf A ms (freshDesk s A))
 
     order : InvIn A end
-    order = row-keeps A (a .1) ms (freshDesk s) ia
+    order = row-keeps A (a .1) ms (freshDesk s A) ia
 
     -- a hit mine is on the board
     hit-cell : (k : ℕ) → getD (end .shown) k 0 ≡ 15 → k < cellsIn s
@@ -162,9 +168,9 @@ twins-alike ms s A B tw = row-alike A B two ms (freshDesk s) (freshDesk s) refl 
     agree j k = off-board A B j (two .size) (λ l. known-same j (rw (a .0) at l) k)
 
 -- so what is seen of them is the same
-pub row-secrecy : (ms : List Move) (s : Settings) (A B : List ℤ) → Twins s (endOf s (rowOf A ms (freshDesk s))) A B
-    → seenOf s (rowOf A ms (freshDesk s)) ≡ seenOf s (rowOf B ms (freshDesk s))
+pub row-secrecy : (ms : List Move) (s : Settings) (A B : List ℤ) → Twins s (endOf s A (rowOf A ms (freshDesk s A))) A B
+    → seenOf s (rowOf A ms (freshDesk s A)) ≡ seenOf s (rowOf B ms (freshDesk s B))
 row-secrecy ms s A B tw =
-    let before = freshDesk s .shown in
-    seen-bared before (rowOf A ms (freshDesk s))
-    ∙ (ap (seenAll before) (twins-alike ms s A B tw) ∙ sym (seen-bared before (rowOf B ms (freshDesk s))))
+    let before = replicate {A = ℕ} (cellsIn s) 10 in
+    seen-bared before (rowOf A ms (freshDesk s A))
+    ∙ (ap (seenAll before) (twins-alike ms s A B tw) ∙ sym (seen-bared before (rowOf B ms (freshDesk s B))))

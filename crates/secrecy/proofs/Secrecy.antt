@@ -38,9 +38,9 @@ on-row B (code ∷ r ∷ c ∷ es) d = let o = stepOn B code r c d in ap (λ (l 
 -- THE theorem
 pub secrecy : Demand
 secrecy s events A B tw =
-    ap (seenOf s) (on-row A events (freshDesk s))
-    ∙ (row-secrecy (moves events) s A B (subst (λ (os : List Play). Twins s (endOf s os) A B) (on-row A events (freshDesk s)) tw)
-    ∙ sym (ap (seenOf s) (on-row B events (freshDesk s))))
+    ap (seenOf s) (on-row A events (freshDesk s A))
+    ∙ (row-secrecy (moves events) s A B (subst (λ (os : List Play). Twins s (endOf s A os) A B) (on-row A events (freshDesk s A)) tw)
+    ∙ sym (ap (seenOf s) (on-row B events (freshDesk s B))))
 
 -- ---- a game that is stopped --------------------------------------------------------------------------------------------------------------
 
@@ -97,6 +97,6 @@ stops-alike A B (code ∷ r ∷ c ∷ es) d e h =
 -- the events up to the first game's refusal, played in games that go on
 pub stopped-secrecy : StoppedDemand
 stopped-secrecy s events A B tw =
-    stops-alike A B events (freshDesk s) (freshDesk s)
+    stops-alike A B events (freshDesk s A) (freshDesk s B)
     (secrecy s (take (3 * length (stopped s events A)) events) A B
-    (subst (λ (os : List Play). Twins s (endOf s os) A B) (plays-on A events (freshDesk s)) tw))
+    (subst (λ (os : List Play). Twins s (endOf s A os) A B) (plays-on A events (freshDesk s A)) tw))

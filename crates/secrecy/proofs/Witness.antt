@@ -14,7 +14,7 @@ use Rattle.secrecy.proofs.Secrecy.{secrecy}
 use Rattle.secrecy.proofs.Games.{open-agree, agree-at, no-hit, games}
 
 -- the hypotheses are met by a game still played
-pub played-twins : Twins (line 16) (endOf (line 16) (game (line 16) playedEvents playedA)) playedA playedB
+pub played-twins : Twins (line 16) (endOf (line 16) playedA (game (line 16) playedEvents playedA)) playedA playedB
 unfolding count every
 played-twins =
     let g = games .played in
@@ -29,7 +29,7 @@ played-twins =
     }
 
 -- by a lost one
-pub lost-twins : Twins (line 10) (endOf (line 10) (game (line 10) lostEvents lostA)) lostA lostB
+pub lost-twins : Twins (line 10) (endOf (line 10) lostA (game (line 10) lostEvents lostA)) lostA lostB
 unfolding count every
 lost-twins =
     let g = games .lost in
@@ -44,7 +44,7 @@ lost-twins =
     }
 
 -- and by one that goes on after refused events: a number is opened and a flag set after them
-pub onward-twins : Twins (line 5) (endOf (line 5) (game (line 5) onwardEvents onwardA)) onwardA onwardB
+pub onward-twins : Twins (line 5) (endOf (line 5) onwardA (game (line 5) onwardEvents onwardA)) onwardA onwardB
 unfolding count every
 onward-twins =
     let g = games .onward in
@@ -59,7 +59,7 @@ onward-twins =
     }
 
 -- and by one under rules 2, in which `r` releases UpDownNotFlag
-pub released-twins : Twins (byRules2 (line 5)) (endOf (byRules2 (line 5)) (game (byRules2 (line 5)) releasedEvents onwardA)) onwardA onwardB
+pub released-twins : Twins (byRules2 (line 5)) (endOf (byRules2 (line 5)) onwardA (game (byRules2 (line 5)) releasedEvents onwardA)) onwardA onwardB
 unfolding count every
 released-twins =
     let g = games .released in

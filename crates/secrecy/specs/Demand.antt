@@ -3,7 +3,7 @@
 use mathlib.Core.Path.{_≡_}
 use mathlib.Core.List.{List, [], _∷_}
 use Prim.Native.Nat.{ℕ, _<_, _≤_}
-use lib.ListN.{getD}
+use lib.ListN.{getD, replicate}
 use lib.IntN.{ℤ}
 use Rattle.rules.specs.declared.Settings.{Settings}
 use Rattle.rules.specs.declared.Counts.{Counts}
@@ -11,14 +11,15 @@ use Rattle.rules.specs.declared.GameState.{GameState}
 use Rattle.rules.specs.declared.MouseState.{MouseState}
 use Rattle.rules.specs.Words.{count}
 use Rattle.rules.specs.Board.{faceAt, mineAt, boardCheck}
+use Rattle.rules.specs.Opening.{openedIn}
 use Rattle.rules.specs.Clicks.{Desk, Play}
 use Rattle.rules.specs.Step.{stepOn}
-use Rattle.rules.specs.Calls.{cellsIn, freshDesk, openedIn, plays}
+use Rattle.rules.specs.Calls.{cellsIn, freshDesk, plays}
 
 -- ---- what is seen ----------------------------------------------------------------------------------------------------------------------
 
 -- what is seen of a play: its answer or refusal, how many cells it opened, the shown board, the states, and the counts left, right, double,
--- lce, dce and flag
+-- lce, dce and flag, with the safe cells still closed
 pub record Seen : Type 0 where
   pub answer : ℕ
   pub opened : ℕ
@@ -56,23 +57,23 @@ playsOn B (code ∷ r ∷ c ∷ es) d =
 
 -- a game goes on after a refused event; one that is stopped ends with it
 abbrev pub game : Settings → List ℕ → List ℤ → List Play
-game s events B = playsOn B events (freshDesk s)
+game s events B = playsOn B events (freshDesk s B)
 
 abbrev pub stopped : Settings → List ℕ → List ℤ → List Play
-stopped s events B = plays B events (freshDesk s)
+stopped s events B = plays B events (freshDesk s B)
 
 -- the last desk of a row of plays, or the one that it began with
 unfoldable pub lastDesk : Desk → List Play → Desk
 lastDesk d [] = d
 lastDesk d (o ∷ os) = lastDesk (o .desk) os
 
--- what is seen of a game, from its fresh start
+-- what is seen of a game, from its fresh start, where every cell is closed
 abbrev pub seenOf : Settings → List Play → List Seen
-seenOf s os = seenAll (freshDesk s .shown) os
+seenOf s os = seenAll (replicate (cellsIn s) 10) os
 
--- what is shown at its end
-abbrev pub endOf : Settings → List Play → List ℕ
-endOf s os = lastDesk (freshDesk s) os .shown
+-- what is shown at its end, on board B
+abbrev pub endOf : Settings → List ℤ → List Play → List ℕ
+endOf s B os = lastDesk (freshDesk s B) os .shown
 
 -- ---- twins: `end` is what is shown at the end of the first game ------------------------------------------------------------------------
 
@@ -114,10 +115,10 @@ pub record Twins (s : Settings) (end : List ℕ) (A B : List ℤ) : Type 0 where
 -- state and counts; in every mode, with question marks on or off, whatever the events are
 abbrev pub Demand : Type 0
 Demand =
-    (s : Settings) (events : List ℕ) (A B : List ℤ) → Twins s (endOf s (game s events A)) A B → seenOf s (game s events A) ≡ seenOf s (game s events B)
+    (s : Settings) (events : List ℕ) (A B : List ℤ) → Twins s (endOf s A (game s events A)) A B → seenOf s (game s events A) ≡ seenOf s (game s events B)
 
 -- the same of games that are stopped, as a book's is
 abbrev pub StoppedDemand : Type 0
 StoppedDemand =
-    (s : Settings) (events : List ℕ) (A B : List ℤ) → Twins s (endOf s (stopped s events A)) A B
+    (s : Settings) (events : List ℕ) (A B : List ℤ) → Twins s (endOf s A (stopped s events A)) A B
     → seenOf s (stopped s events A) ≡ seenOf s (stopped s events B)

@@ -17,7 +17,7 @@ pub record NotEnough (ending : Settings → List ℕ → List ℤ → List Play)
   pub B : List ℤ
   pub first : boardCheck (s .rows) (s .columns) A ≡ 0
   pub second : boardCheck (s .rows) (s .columns) B ≡ 0
-  pub met : Met s (endOf s (ending s events A)) A B
+  pub met : Met s (endOf s A (ending s events A)) A B
   pub differ : seenOf s (game s events A) ≡ seenOf s (game s events B) → ⊥
 
 -- each hypothesis is needed beside the others

@@ -80,7 +80,7 @@ sums (x ∷ xs) = x .opened ∷ sums xs
 
 -- the desk that a game ends with
 abbrev pub end : Settings → List ℕ → List ℤ → Desk
-end s events B = lastDesk (freshDesk s) (game s events B)
+end s events B = lastDesk (freshDesk s B) (game s events B)
 
 -- what the demand does not promise, and why it is shown only after the game: rce, both solved counts and the bits can differ
 pub record Differ (d e : Desk) : Type 0 where

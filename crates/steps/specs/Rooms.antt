@@ -12,4 +12,4 @@ pub record Rooms (bytes : List ℕ) (mines : List ℤ) (shown bits work out : Li
   pub cell : 65536 ≡ length shown
   pub flag : 65536 ≡ length bits
   pub room : 65536 ≡ length work
-  pub text : 524533 ≡ length out
+  pub text : 524544 ≡ length out

@@ -50,10 +50,10 @@ fn work_room() -> [u16; 65536]
     [65535; 65536]
 }
 
-fn text_room() -> [u8; 524533]
-    ensures { λ r. ⌜ 524533 ≡ length r ⌝ }
+fn text_room() -> [u8; 524544]
+    ensures { λ r. ⌜ 524544 ≡ length r ⌝ }
 {
-    [0; 524533]
+    [0; 524544]
 }
 
 fn main() {

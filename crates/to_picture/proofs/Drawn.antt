@@ -54,9 +54,9 @@ lawful-shown question loss f x h =
 -- ---- the last board of an accepted book --------------------------------------------------------------------------------------------------
 
 module _ (s : List ℕ) (b : Book) (e : b ≡ bookOf s) (z : b .number ≡ 0) where
-  end-follows : Follows (bookBoard s b) (bookDesk b) (bookEnd s b)
+  end-follows : Follows (bookBoard s b) (bookDesk s b) (bookEnd s b)
   end-follows =
-      plays-follow (bookBoard s b) (eventsOf s b) (bookDesk b) (done 0 (bookDesk b)) (record { lawful = book-lawful s b e z; settings = refl; told = λ t. t })
+      plays-follow (bookBoard s b) (eventsOf s b) (bookDesk s b) (done 0 (bookDesk s b)) (record { lawful = book-lawful s b e z; settings = refl; told = λ t. t })
 
   end-long : length (bookEnd s b .shown) ≡ b .settings .rows * b .settings .columns
   end-long = end-follows .lawful .kept .sound .ground .board ∙ ap (λ (x : Settings). x .rows * x .columns) (end-follows .settings)

@@ -5,7 +5,7 @@ use Rattle.rules.specs.Step.{plainCode}
 use Rattle.keep.proofs.Step.{pointer-inside}
 use Rattle.game.proofs.Steps.{step-bad, step-decoded, plain-resolved, resolved-asks, resolved-refused, resolved-played}
 use Rattle.refusals.proofs.Faults.{lent-placeable}
-use Rattle.board.proofs.Stepping.{step-unfit, step-heard, step-done, settings-kept, played-small, refused-large, lent-room, lent-kept}
+use Rattle.board.proofs.Stepping.{step-unfit, step-heard, step-done, settings-kept, step-opened, played-small, refused-large, lent-room, lent-kept}
 use borrow.Author.Needs.{needs}
 use Rattle.board.proofs.step.Statement.{statement}
 use Rattle.board.proofs.step.Tie as tie
@@ -87,6 +87,15 @@ play-event-requires c κs = let a = (c .before .before .before .before .before .
     let i = pointer-inside (a .p .settings) (a .row) (a .column) _ (sym (c .before .before .before .before .before .before .before .before .before .before .before .before .before .before .decode .ensures) ∙ c .before .before .before .before .before .before .before .before .before .before .before .before .x .given .1) in
     resolved-asks (a .mines .now) (plainCode (a .code)) _ (a .p) (a .shown .now) (a .bits .now) _ (plain-resolved (a .code) _ (a .p) (a .shown .now) (a .bits .now) _ (c .before .before .before .before .before .before .before .before .before .before .plain-event .ensures)) (a .p) _ refl l (c .before .before .before .before .before .blank .ensures .blank) i
 
+sub-opened : tie.Need-sub-opened
+sub-opened c = let a = (c .before .before .before .before .before .before .before .before .before .before .before .before .before .before .before .before .before .before .before .before .before .before .before .before .before .before .before .before .before .before .before .before .before .before .args) in
+    let d = desk (a .p) (a .shown .now) (a .bits .now) in
+    let o = c .before .before .before .before .before .before .before .before .before .play-event .ensures in
+    let k = c .before .before .before .before .before .before .before .before .before .before .before .before .before .before .before .before .before .before .refusal-of .ensures (a .bits .now) in
+    let e = plain-resolved (a .code) _ (a .p) (a .shown .now) (a .bits .now) _ (c .before .before .before .before .before .before .before .before .before .before .before .before .before .before .before .before .before .before .before .before .plain-event .ensures) in
+    let s = o .outcome ∙ sym (step-decoded _ (plainCode (a .code)) (a .row) (a .column) (a .p) _ _ _ (c .before .before .before .before .before .before .before .before .before .before .before .before .before .before .before .before .before .before .before .before .before .before .before .before .decode .ensures) _ (c .before .before .before .before .before .before .before .before .before .before .before .before .before .before .before .before .before .before .before .before .before .before .x .given .1) ∙ resolved-played (a .mines .now) (plainCode (a .code)) _ (a .p) (a .shown .now) (a .bits .now) _ e _ k (c .before .before .before .before .before .before .before .before .before .before .before .before .before .before .before .before .before .if2 .left) (a .p) refl) in
+    step-opened _ (a .code) (a .row) (a .column) (a .p) _ _ _ _ _ _ (lent-kept _ d _ _ (c .before .before .before .before .before .before .before .before .before .before .before .before .before .before .before .before .before .before .before .before .before .before .before .before .before .before .before .lent-refusal .ensures) (c .before .before .before .before .before .before .before .before .before .before .before .before .before .before .before .before .before .before .before .before .before .before .before .before .before .before .if1 .left)) s .less
+
 answer-requires-3 : tie.Need-answer-requires-3
 answer-requires-3 c κs = search needs
 
@@ -97,17 +106,18 @@ same-length-11 : tie.Need-same-length-11
 same-length-11 c = search needs
 
 same-length-12 : tie.Need-same-length-12
-same-length-12 c = search needs
+same-length-12 c = c .before .before .before .before .before .before .before .before .before .before .play-event .kept .1 .1 .1 .1 .1 .0 ∙ c .before .before .before .before .before .before .before .before .before .before .before .before .before .before .before .before .blank .kept .1 .0
 
 returns-4 : tie.Need-returns-4
-returns-4 c = let a = (c .before .before .before .before .before .before .before .before .before .before .before .before .before .before .before .before .before .before .before .before .before .before .before .before .before .before .before .before .before .before .before .before .before .args) in
+returns-4 c = let a = (c .before .before .before .before .before .before .before .before .before .before .before .before .before .before .before .before .before .before .before .before .before .before .before .before .before .before .before .before .before .before .before .before .before .before .before .args) in
     let d = desk (a .p) (a .shown .now) (a .bits .now) in
-    let o = c .before .before .before .before .before .before .before .before .play-event .ensures in
-    let k = c .before .before .before .before .before .before .before .before .before .before .before .before .before .before .before .before .before .refusal-of .ensures (a .bits .now) in
-    let e = plain-resolved (a .code) _ (a .p) (a .shown .now) (a .bits .now) _ (c .before .before .before .before .before .before .before .before .before .before .before .before .before .before .before .before .before .before .before .plain-event .ensures) in
-    let s = o .outcome ∙ sym (step-decoded _ (plainCode (a .code)) (a .row) (a .column) (a .p) _ _ _ (c .before .before .before .before .before .before .before .before .before .before .before .before .before .before .before .before .before .before .before .before .before .before .before .decode .ensures) _ (c .before .before .before .before .before .before .before .before .before .before .before .before .before .before .before .before .before .before .before .before .before .x .given .1) ∙ resolved-played (a .mines .now) (plainCode (a .code)) _ (a .p) (a .shown .now) (a .bits .now) _ e _ k (c .before .before .before .before .before .before .before .before .before .before .before .before .before .before .before .before .if2 .left) (a .p) refl) in
-    step-done _ (a .code) (a .row) (a .column) (a .p) _ _ _ _ (c .before .before .before .before .before .before .before .before .before .before .before .before .before .before .before .before .before .before .before .before .before .before .before .before .before .before .lent-refusal .ensures) _ _ _ _ _ _ _ (c .before .before .before .before .before .before .before .before .before .before .before .before .before .before .before .before .before .before .before .before .before .before .before .before .before .if1 .left) s (played-small _ (c .before .before .before .before .before .before .before .before .before .before .before .before .before .before .before .before .before .before .before .plain-event .result) d _ _ (o .outcome)) (o .same ∙ c .before .before .before .before .before .before .before .before .before .before .before .before .before .before .blank .ensures .cleared)
-    (settings-kept _ (a .code) (a .row) (a .column) (a .p) _ _ _ _ _ _ (lent-kept _ d _ _ (c .before .before .before .before .before .before .before .before .before .before .before .before .before .before .before .before .before .before .before .before .before .before .before .before .before .before .lent-refusal .ensures) (c .before .before .before .before .before .before .before .before .before .before .before .before .before .before .before .before .before .before .before .before .before .before .before .before .before .if1 .left)) s) (o .opened) (c .answer3 .ensures)
+    let o = c .before .before .before .before .before .before .before .before .before .before .play-event .ensures in
+    let k = c .before .before .before .before .before .before .before .before .before .before .before .before .before .before .before .before .before .before .before .refusal-of .ensures (a .bits .now) in
+    let l = lent-kept _ d _ _ (c .before .before .before .before .before .before .before .before .before .before .before .before .before .before .before .before .before .before .before .before .before .before .before .before .before .before .before .before .lent-refusal .ensures) (c .before .before .before .before .before .before .before .before .before .before .before .before .before .before .before .before .before .before .before .before .before .before .before .before .before .before .before .if1 .left) in
+    let e = plain-resolved (a .code) _ (a .p) (a .shown .now) (a .bits .now) _ (c .before .before .before .before .before .before .before .before .before .before .before .before .before .before .before .before .before .before .before .before .before .plain-event .ensures) in
+    let s = o .outcome ∙ sym (step-decoded _ (plainCode (a .code)) (a .row) (a .column) (a .p) _ _ _ (c .before .before .before .before .before .before .before .before .before .before .before .before .before .before .before .before .before .before .before .before .before .before .before .before .before .decode .ensures) _ (c .before .before .before .before .before .before .before .before .before .before .before .before .before .before .before .before .before .before .before .before .before .before .before .x .given .1) ∙ resolved-played (a .mines .now) (plainCode (a .code)) _ (a .p) (a .shown .now) (a .bits .now) _ e _ k (c .before .before .before .before .before .before .before .before .before .before .before .before .before .before .before .before .before .before .if2 .left) (a .p) refl) in
+    step-done _ (a .code) (a .row) (a .column) (a .p) _ _ _ _ (c .before .before .before .before .before .before .before .before .before .before .before .before .before .before .before .before .before .before .before .before .before .before .before .before .before .before .before .before .lent-refusal .ensures) _ _ _ _ _ _ _ (c .before .before .before .before .before .before .before .before .before .before .before .before .before .before .before .before .before .before .before .before .before .before .before .before .before .before .before .if1 .left) s (played-small _ (c .before .before .before .before .before .before .before .before .before .before .before .before .before .before .before .before .before .before .before .before .before .plain-event .result) d _ _ (o .outcome)) (o .same ∙ c .before .before .before .before .before .before .before .before .before .before .before .before .before .before .before .before .blank .ensures .cleared)
+    (settings-kept _ (a .code) (a .row) (a .column) (a .p) _ _ _ _ _ _ l s) (step-opened _ (a .code) (a .row) (a .column) (a .p) _ _ _ _ _ _ l s .by) (c .answer3 .ensures)
 
 pub step-spec : {M : Type 1} → statement M
 step-spec =
@@ -136,6 +146,7 @@ step-spec =
     returns-3
     blank-requires
     play-event-requires
+    sub-opened
     answer-requires-3
     same-length-10
     same-length-11

@@ -12,7 +12,7 @@ moves-requires : tie.Need-moves-requires
 moves-requires c κs = search needs
 
 returns : tie.Need-returns
-returns c = let a = (c .before .before .before .before .args) in let h = lc-turns (a .mines .now) (a .code) (a .row) (a .column) (a .p) _ _ _ (c .moves .ensures) in (h .0 ∙ code-lc (a .mines .now) (a .code) (a .row) (a .column) (a .p) _ _ (c .before .if1 .taken), h .1)
+returns c = let a = (c .before .before .before .before .args) in lc-turns (a .mines .now) (a .code) (a .row) (a .column) (a .p) _ _ _ (c .moves .ensures) ∙ code-lc (a .mines .now) (a .code) (a .row) (a .column) (a .p) _ _ (c .before .if1 .taken)
 
 release-left-requires : tie.Need-release-left-requires
 release-left-requires c κs =

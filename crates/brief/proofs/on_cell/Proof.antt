@@ -1,6 +1,6 @@
 -- `brief::on_cell` meets its contract.
 use Rattle.rules.specs.States.{isPlaying}
-use mathlib.Core.Path.{_∙_, sym, refl}
+use mathlib.Core.Path.{_∙_, sym}
 use Rattle.rules.specs.declared.Pointer.the-variants.{Cell}
 use Rattle.brief.proofs.Heard.{button-code, button-briefly, move-steps}
 use borrow.Author.Needs.{needs}
@@ -23,7 +23,7 @@ returns : tie.Need-returns
 returns c = let a = (c .before .before .before .before .before .before .before .before .before .before .before .args) in button-briefly (a .mines .now) (a .code) (Cell (a .row) (a .column)) (a .p) (a .shown .now) (a .bits .now) (c .before .before .before .before .before .before .before .before .before .before .before .pre .1 .1) (sym (c .before .before .before .before .before .before .before .before .is-button .ensures) ∙ c .before .before .before .before .before .before .before .if1 .taken) (c .before .before .before .before .button .result) (c .before .before .before .before .button .last .1 .1 .1 .1 .1 .0) (c .before .before .before .before .button .last .1 .1 .1 .1 .1 .1 .0) (c .before .before .before .before .button .ensures)
 
 returns-2 : tie.Need-returns-2
-returns-2 c = let a = (c .before .before .before .before .before .args) in (move-steps (a .mines .now) (a .code) (Cell (a .row) (a .column)) (a .p) (a .shown .now) (a .bits .now) (c .before .before .before .before .before .pre .1 .1) (c .if2 .taken), record { counted = refl })
+returns-2 c = let a = (c .before .before .before .before .before .args) in move-steps (a .mines .now) (a .code) (Cell (a .row) (a .column)) (a .p) (a .shown .now) (a .bits .now) (c .before .before .before .before .before .pre .1 .1) (c .if2 .taken)
 
 returns-3 : tie.Need-returns-3
 returns-3 c = search needs

@@ -1,7 +1,7 @@
 -- `press_right`: a flag in a mode in which no pass follows it, or not brief.
 use mathlib.Core.Path.{_∙_}
 use native.Mathlib.Omega.{arith}
-use Rattle.brief.proofs.Ways.{on-board, rc-flags, flag-asks, flag-leaves, flag-ticked}
+use Rattle.brief.proofs.Ways.{on-board, rc-flags, flag-asks, flag-leaves}
 use borrow.Author.Needs.{needs}
 use Rattle.brief.proofs.press_right.Statement.{statement}
 use Rattle.brief.proofs.press_right.Tie as tie
@@ -37,7 +37,7 @@ same-length-2 : tie.Need-same-length-2
 same-length-2 c = search needs
 
 returns-4 : tie.Need-returns-4
-returns-4 c = (flag-leaves _ _ (c .before .before .before .before .before .before .before .before .before .before .before .before .before .before .before .before .before .args .p) _ _ (c .before .before .before .before .before .before .before .before .before .before .before .before .before .before .before .before .before .args .shown .now) (c .before .before .before .before .before .before .before .before .before .before .before .before .before .before .before .before .before .args .bits .now) _ _ (c .before .before .before .before .before .before .before .moved .ensures) (c .before .before .before .before .flag .ensures) ∙ rc-flags (c .before .before .before .before .before .before .before .before .before .before .before .before .before .before .before .before .before .args .mines .now) (c .before .before .before .before .before .before .before .before .before .before .before .before .before .before .before .before .before .args .row) (c .before .before .before .before .before .before .before .before .before .before .before .before .before .before .before .before .before .args .column) _ (c .before .before .before .before .before .before .before .before .before .before .before .before .before .before .before .before .before .args .p) _ _ (c .before .before .before .before .before .before .before .before .before .before .cell .ensures) _ (c .before .before .before .before .before .before .before .before .before .before .before .before .mouse-number .ensures) (let z = c .before .before .before .before .before .before .before .before .before .before .before .if2 .left in omega arith) (c .before .before .before .before .before .before .before .before .if3 .left) (let z = c .before .before .before .before .before .before .before .before .before .before .before .before .before .if1 .left in omega arith), flag-ticked _ _ _ _ _ _ _ _ (c .before .before .before .before .flag .ensures) (c .before .before .before .before .before .before .before .before .if3 .left))
+returns-4 c = flag-leaves _ _ (c .before .before .before .before .before .before .before .before .before .before .before .before .before .before .before .before .before .args .p) _ _ (c .before .before .before .before .before .before .before .before .before .before .before .before .before .before .before .before .before .args .shown .now) (c .before .before .before .before .before .before .before .before .before .before .before .before .before .before .before .before .before .args .bits .now) _ _ (c .before .before .before .before .before .before .before .moved .ensures) (c .before .before .before .before .flag .ensures) ∙ rc-flags (c .before .before .before .before .before .before .before .before .before .before .before .before .before .before .before .before .before .args .mines .now) (c .before .before .before .before .before .before .before .before .before .before .before .before .before .before .before .before .before .args .row) (c .before .before .before .before .before .before .before .before .before .before .before .before .before .before .before .before .before .args .column) _ (c .before .before .before .before .before .before .before .before .before .before .before .before .before .before .before .before .before .args .p) _ _ (c .before .before .before .before .before .before .before .before .before .before .cell .ensures) _ (c .before .before .before .before .before .before .before .before .before .before .before .before .mouse-number .ensures) (let z = c .before .before .before .before .before .before .before .before .before .before .before .if2 .left in omega arith) (c .before .before .before .before .before .before .before .before .if3 .left) (let z = c .before .before .before .before .before .before .before .before .before .before .before .before .before .if1 .left in omega arith)
 
 pub press-right-spec : {M : Type 1} → statement M
 press-right-spec =

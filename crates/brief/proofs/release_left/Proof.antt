@@ -50,13 +50,13 @@ moved-requires : tie.Need-moved-requires
 moved-requires c κs = search needs
 
 left-number-requires : tie.Need-left-number-requires
-left-number-requires c κs = let a = c .before .before .before .before .before .before .before .before .before .before .before .before .before .before .before .before .args in let pre = c .before .before .before .before .before .before .before .before .before .before .before .before .before .before .before .before .pre in let number = c .before .before .before .before .before .before .before .before .is-number .ensures .yes (not-false _ (c .before .before .before .before .before .before .before .if3 .left)) in number-asks _ (a .row) (a .column) _ (a .p) (c .before .before .before .before .before .before .before .before .before .before .before .before .cell .ensures) _ (c .before .before .before .before .before .before .before .before .before .face-at .ensures) number (pre .0) (pre .1 .1 .0) _ _ (c .before .before .before .before .wide .ensures .0) (c .before .before .before .wide2 .ensures .0) _ (c .before .before .lone-number .ensures) _ (c .before .moved .ensures) _ (pre .1 .0) (pre .1 .1 .1) (c .before .before .before .before .before .before .before .before .before .before .if2 .left)
+left-number-requires c κs = let asks = (let a = c .before .before .before .before .before .before .before .before .before .before .before .before .before .before .before .before .args in let pre = c .before .before .before .before .before .before .before .before .before .before .before .before .before .before .before .before .pre in let number = c .before .before .before .before .before .before .before .before .is-number .ensures .yes (not-false _ (c .before .before .before .before .before .before .before .if3 .left)) in number-asks _ (a .row) (a .column) _ (a .p) (c .before .before .before .before .before .before .before .before .before .before .before .before .cell .ensures) _ (c .before .before .before .before .before .before .before .before .before .face-at .ensures) number (pre .0) (pre .1 .1 .0) _ _ (c .before .before .before .before .wide .ensures .0) (c .before .before .before .wide2 .ensures .0) _ (c .before .before .lone-number .ensures) _ (c .before .moved .ensures) _ (pre .1 .0) (pre .1 .1 .1) (c .before .before .before .before .before .before .before .before .before .before .if2 .left)) in (omega (arith, asks .0 .inside, asks .0 .board), asks .1)
 
 same-length : tie.Need-same-length
 same-length c = search needs
 
 returns-4 : tie.Need-returns-4
-returns-4 c = λ bits. let a = c .before .before .before .before .before .before .before .before .before .before .before .before .before .before .before .before .before .before .before .args in (c .before .before .left-number .ensures .0 bits ∙ lr-left _ (a .row) (a .column) _ (a .p) (c .before .before .before .before .before .before .before .before .before .before .before .before .before .before .before .cell .ensures) _ _ (c .before .before .before .before .moved .ensures) _ (c .before .before .before .before .before .before .before .before .before .before .before .before .before .before .before .before .before .mouse-number .ensures) (let z = c .before .before .before .before .before .before .before .before .before .before .before .before .before .before .before .before .if1 .left in omega arith) bits, c .before .before .left-number .ensures .1)
+returns-4 c = λ bits. let asks = (let a = c .before .before .before .before .before .before .before .before .before .before .before .before .before .before .before .before .before .before .before .args in let pre = c .before .before .before .before .before .before .before .before .before .before .before .before .before .before .before .before .before .before .before .pre in let number = c .before .before .before .before .before .before .before .before .before .before .before .is-number .ensures .yes (not-false _ (c .before .before .before .before .before .before .before .before .before .before .if3 .left)) in number-asks _ (a .row) (a .column) _ (a .p) (c .before .before .before .before .before .before .before .before .before .before .before .before .before .before .before .cell .ensures) _ (c .before .before .before .before .before .before .before .before .before .before .before .before .face-at .ensures) number (pre .0) (pre .1 .1 .0) _ _ (c .before .before .before .before .before .before .before .wide .ensures .0) (c .before .before .before .before .before .before .wide2 .ensures .0) _ (c .before .before .before .before .before .lone-number .ensures) _ (c .before .before .before .before .moved .ensures) _ (pre .1 .0) (pre .1 .1 .1) (c .before .before .before .before .before .before .before .before .before .before .before .before .before .if2 .left)) in let a = c .before .before .before .before .before .before .before .before .before .before .before .before .before .before .before .before .before .before .before .args in c .before .before .left-number .ensures _ bits (asks .0) ∙ lr-left _ (a .row) (a .column) _ (a .p) (c .before .before .before .before .before .before .before .before .before .before .before .before .before .before .before .cell .ensures) _ _ (c .before .before .before .before .moved .ensures) _ (c .before .before .before .before .before .before .before .before .before .before .before .before .before .before .before .before .before .mouse-number .ensures) (let z = c .before .before .before .before .before .before .before .before .before .before .before .before .before .before .before .before .if1 .left in omega arith) bits
 
 pub release-left-spec : {M : Type 1} → statement M
 release-left-spec =

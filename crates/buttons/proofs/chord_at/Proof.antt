@@ -1,7 +1,6 @@
 -- `buttons::chord_at` meets its contract.
-use mathlib.Core.Path.{refl}
 use borrow.Author.Needs.{needs}
-use Rattle.cells.proofs.Contracts.{plays-by, plays-here}
+use Rattle.cells.proofs.Contracts.{leaves-by, leaves-here}
 use Rattle.buttons.proofs.Plays.{inside-cell}
 use Rattle.buttons.proofs.Cases.{chord-at-cell, chord-at-off}
 use Rattle.buttons.proofs.chord_at.Statement.{statement}
@@ -29,10 +28,10 @@ same-length-3 : tie.Need-same-length-3
 same-length-3 c = search needs
 
 returns : tie.Need-returns
-returns c = plays-by (c .before .before .before .before .before .before .chording-click .ensures) (chord-at-cell _ (c .before .before .before .before .before .before .before .before .before .before .before .before .before .before .before .before .before .args .x) (c .before .before .before .before .before .before .before .before .before .before .before .before .before .before .before .before .before .args .p) (c .before .before .before .before .before .before .before .before .before .before .before .before .before .before .before .before .before .args .p) _ _ _ _ _ (c .before .before .before .before .before .before .before .before .before .before .before .before .x .given .1) (c .before .before .before .before .before .before .before .before .before .before .cell .ensures))
+returns c = leaves-by (c .before .before .before .before .before .before .chording-click .ensures) (chord-at-cell _ (c .before .before .before .before .before .before .before .before .before .before .before .before .before .before .before .before .before .args .x) (c .before .before .before .before .before .before .before .before .before .before .before .before .before .before .before .before .before .args .p) (c .before .before .before .before .before .before .before .before .before .before .before .before .before .before .before .before .before .args .p) _ _ _ _ _ (c .before .before .before .before .before .before .before .before .before .before .before .before .x .given .1) (c .before .before .before .before .before .before .before .before .before .before .cell .ensures))
 
 returns-2 : tie.Need-returns-2
-returns-2 c = plays-here (chord-at-off _ (c .before .before .before .before .before .args .x) (c .before .before .before .before .before .args .p) (c .before .before .before .before .before .args .p) _ _ (c .enum-told .given .1)) refl
+returns-2 c = leaves-here (chord-at-off _ (c .before .before .before .before .before .args .x) (c .before .before .before .before .before .args .p) (c .before .before .before .before .before .args .p) _ _ (c .enum-told .given .1))
 
 pub chord-at-spec : {M : Type 1} → statement M
 chord-at-spec =

@@ -1,7 +1,6 @@
 -- `buttons::chord_from` meets its contract.
-use mathlib.Core.Path.{refl}
 use borrow.Author.Needs.{needs}
-use Rattle.cells.proofs.Contracts.{plays-by, plays-here}
+use Rattle.cells.proofs.Contracts.{leaves-by, leaves-here}
 use Rattle.buttons.proofs.Plays.{able-less}
 use Rattle.buttons.proofs.Cases.{chord-from-both, chord-from-not, chord-from-none}
 use Rattle.buttons.proofs.chord_from.Statement.{statement}
@@ -20,7 +19,7 @@ same-length-3 : tie.Need-same-length-3
 same-length-3 c = search needs
 
 returns : tie.Need-returns
-returns c = plays-by (c .before .before .before .before .before .before .chord-at .ensures) (chord-from-both _ (c .before .before .before .before .before .before .before .before .before .before .before .before .before .before .args .x) (c .before .before .before .before .before .before .before .before .before .before .before .before .before .before .args .p) (c .before .before .before .before .before .before .before .before .before .before .before .before .before .before .args .p) _ _ _ (c .before .before .before .before .before .before .before .before .before .before .if1 .taken))
+returns c = leaves-by (c .before .before .before .before .before .before .chord-at .ensures) (chord-from-both _ (c .before .before .before .before .before .before .before .before .before .before .before .before .before .before .args .x) (c .before .before .before .before .before .before .before .before .before .before .before .before .before .before .args .p) (c .before .before .before .before .before .before .before .before .before .before .before .before .before .before .args .p) _ _ _ (c .before .before .before .before .before .before .before .before .before .before .if1 .taken))
 
 sub-n : tie.Need-sub-n
 sub-n c = c .before .before .before .before .before .before .pre .1 .1 (c .before .if2 .taken)
@@ -41,10 +40,10 @@ same-length-6 : tie.Need-same-length-6
 same-length-6 c = search needs
 
 returns-2 : tie.Need-returns-2
-returns-2 c = plays-by (c .before .before .before .before .before .before .chord-at2 .ensures) (chord-from-not _ (c .before .before .before .before .before .before .before .before .before .before .before .before .before .before .before .before .before .args .x) (c .before .before .before .before .before .before .before .before .before .before .before .before .before .before .before .before .before .args .p) _ _ _ _ (c .before .before .before .before .before .before .before .before .before .before .before .before .before .if1 .left) (c .before .before .before .before .before .before .before .before .before .before .before .before .if2 .taken) (c .before .before .before .before .before .before .before .before .before .before .with-right .ensures))
+returns-2 c = leaves-by (c .before .before .before .before .before .before .chord-at2 .ensures) (chord-from-not _ (c .before .before .before .before .before .before .before .before .before .before .before .before .before .before .before .before .before .args .x) (c .before .before .before .before .before .before .before .before .before .before .before .before .before .before .before .before .before .args .p) _ _ _ _ (c .before .before .before .before .before .before .before .before .before .before .before .before .before .if1 .left) (c .before .before .before .before .before .before .before .before .before .before .before .before .if2 .taken) (c .before .before .before .before .before .before .before .before .before .before .with-right .ensures))
 
 returns-3 : tie.Need-returns-3
-returns-3 c = plays-here (chord-from-none _ (c .before .before .before .before .before .args .x) (c .before .before .before .before .before .args .p) (c .before .before .before .before .before .args .p) _ _ _ (c .before .if1 .left) (c .if2 .left)) refl
+returns-3 c = leaves-here (chord-from-none _ (c .before .before .before .before .before .args .x) (c .before .before .before .before .before .args .p) (c .before .before .before .before .before .args .p) _ _ _ (c .before .if1 .left) (c .if2 .left))
 
 pub chord-from-spec : {M : Type 1} → statement M
 chord-from-spec =

@@ -1,5 +1,5 @@
 -- `left_at`: the pointer is a cell of the board, or off it.
-use Rattle.cells.proofs.Contracts.{plays-by, plays-here}
+use Rattle.cells.proofs.Contracts.{leaves-by}
 use Rattle.buttons.proofs.Plays.{inside-wide, cell-wide}
 use Rattle.buttons.proofs.Cases.{left-at-cell, left-at-off}
 use mathlib.Core.Path.{refl}
@@ -32,10 +32,10 @@ same-length-2 : tie.Need-same-length-2
 same-length-2 c = search needs
 
 returns : tie.Need-returns
-returns c = λ bits. plays-by (c .before .before .before .before .left-click .ensures bits) (left-at-cell _ (c .before .before .before .before .before .before .before .before .before .before .before .before .before .before .args .x) (c .before .before .before .before .before .before .before .before .before .before .before .before .before .before .args .p) (c .before .before .before .before .before .before .before .before .before .before .before .before .before .before .args .p) _ bits _ _ _ (c .before .before .before .before .before .before .before .before .before .before .x .given .1) (cell-wide (c .before .before .before .before .before .before .before .before .wide .ensures .0) (c .before .before .before .before .before .before .before .wide2 .ensures .0) (c .before .before .before .before .before .before .before .before .before .before .before .before .before .before .args .p .settings .columns)))
+returns c = λ bits. leaves-by (c .before .before .before .before .left-click .ensures bits) (left-at-cell _ (c .before .before .before .before .before .before .before .before .before .before .before .before .before .before .args .x) (c .before .before .before .before .before .before .before .before .before .before .before .before .before .before .args .p) (c .before .before .before .before .before .before .before .before .before .before .before .before .before .before .args .p) _ bits _ _ _ (c .before .before .before .before .before .before .before .before .before .before .x .given .1) (cell-wide (c .before .before .before .before .before .before .before .before .wide .ensures .0) (c .before .before .before .before .before .before .before .wide2 .ensures .0) (c .before .before .before .before .before .before .before .before .before .before .before .before .before .before .args .p .settings .columns)))
 
 returns-2 : tie.Need-returns-2
-returns-2 c = λ bits. plays-here (left-at-off _ (c .before .before .before .before .before .args .x) (c .before .before .before .before .before .args .p) _ _ bits (c .before .enum-told .given .1) (c .add-left .ensures)) refl
+returns-2 c = λ bits. record { outcome = left-at-off _ (c .before .before .before .before .before .args .x) (c .before .before .before .before .before .args .p) _ _ bits (c .before .enum-told .given .1) (c .add-left .ensures); same = refl }
 
 pub left-at-spec : {M : Type 1} → statement M
 left-at-spec =

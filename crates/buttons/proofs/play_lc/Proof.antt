@@ -1,5 +1,5 @@
 -- `buttons::play_lc` meets its contract.
-use mathlib.Core.Path.{_∙_, sym, refl}
+use mathlib.Core.Path.{_∙_, sym}
 use mathlib.Core.List.{[]}
 use borrow.Author.Needs.{needs}
 use Rattle.buttons.proofs.Cases.{play-lc-cell, play-lc-off}
@@ -13,13 +13,13 @@ moved-requires : tie.Need-moved-requires
 moved-requires c κs = search needs
 
 returns : tie.Need-returns
-returns c = ((λ shown bits. play-lc-cell [] (c .before .before .before .args .x) (c .before .before .before .args .p) _ shown bits (sym (c .before .before .on-cell .ensures) ∙ c .before .if1 .taken) (c .moved .ensures)), refl)
+returns c = λ shown bits. play-lc-cell [] (c .before .before .before .args .x) (c .before .before .before .args .p) _ shown bits (sym (c .before .before .on-cell .ensures) ∙ c .before .if1 .taken) (c .moved .ensures)
 
 add-left-requires : tie.Need-add-left-requires
 add-left-requires c κs = search needs
 
 returns-2 : tie.Need-returns-2
-returns-2 c = ((λ shown bits. play-lc-off [] (c .before .before .before .args .x) (c .before .before .before .args .p) _ shown bits (sym (c .before .before .on-cell .ensures) ∙ c .before .if1 .left) (c .add-left .ensures)), refl)
+returns-2 c = λ shown bits. play-lc-off [] (c .before .before .before .args .x) (c .before .before .before .args .p) _ shown bits (sym (c .before .before .on-cell .ensures) ∙ c .before .if1 .left) (c .add-left .ensures)
 
 pub play-lc-spec : {M : Type 1} → statement M
 play-lc-spec =

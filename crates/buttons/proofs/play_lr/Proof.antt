@@ -1,5 +1,5 @@
 -- `buttons::play_lr` meets its contract.
-use Rattle.cells.proofs.Contracts.{plays-by}
+use Rattle.cells.proofs.Contracts.{leaves-by}
 use Rattle.buttons.proofs.Plays.{alike-moved, alike-at, chord-needs}
 use Rattle.buttons.proofs.Cases.{play-lr-left, play-lr-chord}
 use borrow.Author.Needs.{needs}
@@ -22,7 +22,7 @@ same-length-2 : tie.Need-same-length-2
 same-length-2 c = search needs
 
 returns : tie.Need-returns
-returns c = plays-by (c .before .before .before .before .left-at .ensures _) (play-lr-left _ (c .before .before .before .before .before .before .before .before .before .before .before .before .before .args .x) (c .before .before .before .before .before .before .before .before .before .before .before .before .before .args .p) _ _ _ _ (c .before .before .before .before .before .before .before .before .before .mouse-number .ensures) (c .before .before .before .before .before .before .before .before .if1 .taken) (c .before .before .before .before .before .before .before .moved .ensures))
+returns c = leaves-by (c .before .before .before .before .left-at .ensures _) (play-lr-left _ (c .before .before .before .before .before .before .before .before .before .before .before .before .before .args .x) (c .before .before .before .before .before .before .before .before .before .before .before .before .before .args .p) _ _ _ _ (c .before .before .before .before .before .before .before .before .before .mouse-number .ensures) (c .before .before .before .before .before .before .before .before .if1 .taken) (c .before .before .before .before .before .before .before .moved .ensures))
 
 moved-requires-2 : tie.Need-moved-requires-2
 moved-requires-2 c κs = search needs
@@ -40,7 +40,7 @@ same-length-5 : tie.Need-same-length-5
 same-length-5 c = search needs
 
 returns-2 : tie.Need-returns-2
-returns-2 c = plays-by (c .before .before .before .before .before .before .chord-from .ensures) (play-lr-chord _ (c .before .before .before .before .before .before .before .before .before .before .before .before .before .before .before .before .args .x) (c .before .before .before .before .before .before .before .before .before .before .before .before .before .before .before .before .args .p) _ _ _ _ (c .before .before .before .before .before .before .before .before .before .before .before .before .mouse-number .ensures) (c .before .before .before .before .before .before .before .before .before .before .before .if1 .left) (c .before .before .before .before .before .before .before .before .before .before .moved2 .ensures))
+returns-2 c = leaves-by (c .before .before .before .before .before .before .chord-from .ensures) (play-lr-chord _ (c .before .before .before .before .before .before .before .before .before .before .before .before .before .before .before .before .args .x) (c .before .before .before .before .before .before .before .before .before .before .before .before .before .before .before .before .args .p) _ _ _ _ (c .before .before .before .before .before .before .before .before .before .before .before .before .mouse-number .ensures) (c .before .before .before .before .before .before .before .before .before .before .before .if1 .left) (c .before .before .before .before .before .before .before .before .before .before .moved2 .ensures))
 
 pub play-lr-spec : {M : Type 1} → statement M
 play-lr-spec =

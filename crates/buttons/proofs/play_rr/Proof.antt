@@ -1,6 +1,6 @@
 -- `buttons::play_rr` meets its contract.
-use mathlib.Core.Path.{refl, _∙_, sym}
-use Rattle.cells.proofs.Contracts.{plays-by, plays-here}
+use mathlib.Core.Path.{_∙_, sym}
+use Rattle.cells.proofs.Contracts.{leaves-by, leaves-here}
 use Rattle.buttons.proofs.Plays.{chord-needs}
 use Rattle.buttons.proofs.Cases.{chord-from-none, play-rr-chord}
 use borrow.Author.Needs.{needs}
@@ -14,7 +14,7 @@ moved-requires : tie.Need-moved-requires
 moved-requires c κs = search needs
 
 returns : tie.Need-returns
-returns c = plays-here (chord-from-none _ (c .before .before .before .before .before .before .before .args .x) _ (c .before .before .before .before .before .before .before .args .p) _ _ _ (c .before .before .if1 .taken) (c .before .if2 .taken) ∙ sym (play-rr-chord _ (c .before .before .before .before .before .before .before .args .x) (c .before .before .before .before .before .before .before .args .p) _ _ _ _ (c .before .before .before .mouse-number .ensures) (c .moved .ensures))) refl
+returns c = leaves-here (chord-from-none _ (c .before .before .before .before .before .before .before .args .x) _ (c .before .before .before .before .before .before .before .args .p) _ _ _ (c .before .before .if1 .taken) (c .before .if2 .taken) ∙ sym (play-rr-chord _ (c .before .before .before .before .before .before .before .args .x) (c .before .before .before .before .before .before .before .args .p) _ _ _ _ (c .before .before .before .mouse-number .ensures) (c .moved .ensures)))
 
 moved-requires-2 : tie.Need-moved-requires-2
 moved-requires-2 c κs = search needs
@@ -32,7 +32,7 @@ same-length-3 : tie.Need-same-length-3
 same-length-3 c = search needs
 
 returns-2 : tie.Need-returns-2
-returns-2 c = plays-by (c .before .before .before .before .before .before .chord-from .ensures) (play-rr-chord _ (c .before .before .before .before .before .before .before .before .before .before .before .before .before .before .before .before .args .x) (c .before .before .before .before .before .before .before .before .before .before .before .before .before .before .before .before .args .p) _ _ _ _ (c .before .before .before .before .before .before .before .before .before .before .before .before .mouse-number .ensures) (c .before .before .before .before .before .before .before .before .before .before .moved2 .ensures))
+returns-2 c = leaves-by (c .before .before .before .before .before .before .chord-from .ensures) (play-rr-chord _ (c .before .before .before .before .before .before .before .before .before .before .before .before .before .before .before .before .args .x) (c .before .before .before .before .before .before .before .before .before .before .before .before .before .before .before .before .args .p) _ _ _ _ (c .before .before .before .before .before .before .before .before .before .before .before .before .mouse-number .ensures) (c .before .before .before .before .before .before .before .before .before .before .moved2 .ensures))
 
 pub play-rr-spec : {M : Type 1} → statement M
 play-rr-spec =

@@ -1,7 +1,6 @@
 -- `buttons::right_at` meets its contract.
-use mathlib.Core.Path.{refl}
 use borrow.Author.Needs.{needs}
-use Rattle.cells.proofs.Contracts.{plays-by, plays-here}
+use Rattle.cells.proofs.Contracts.{leaves-by, leaves-here}
 use Rattle.buttons.proofs.Plays.{inside-cell}
 use Rattle.buttons.proofs.Cases.{right-at-cell, right-at-off}
 use Rattle.buttons.proofs.right_at.Statement.{statement}
@@ -32,10 +31,10 @@ same-length-3 : tie.Need-same-length-3
 same-length-3 c = search needs
 
 returns : tie.Need-returns
-returns c = plays-by (c .before .before .before .before .before .before .right-click .ensures) (right-at-cell _ (c .before .before .before .before .before .before .before .before .before .before .before .before .before .before .before .before .before .args .x) (c .before .before .before .before .before .before .before .before .before .before .before .before .before .before .before .before .before .args .p) (c .before .before .before .before .before .before .before .before .before .before .before .before .before .before .before .before .before .args .p) _ _ _ _ _ (c .before .before .before .before .before .before .before .before .before .before .before .before .x .given .1) (c .before .before .before .before .before .before .before .before .before .before .cell .ensures))
+returns c = leaves-by (c .before .before .before .before .before .before .right-click .ensures) (right-at-cell _ (c .before .before .before .before .before .before .before .before .before .before .before .before .before .before .before .before .before .args .x) (c .before .before .before .before .before .before .before .before .before .before .before .before .before .before .before .before .before .args .p) (c .before .before .before .before .before .before .before .before .before .before .before .before .before .before .before .before .before .args .p) _ _ _ _ _ (c .before .before .before .before .before .before .before .before .before .before .before .before .x .given .1) (c .before .before .before .before .before .before .before .before .before .before .cell .ensures))
 
 returns-2 : tie.Need-returns-2
-returns-2 c = plays-here (right-at-off _ (c .before .before .before .before .before .before .args .x) (c .before .before .before .before .before .before .args .p) _ _ _ (c .before .enum-told .given .1) (c .add-right .ensures)) refl
+returns-2 c = leaves-here (right-at-off _ (c .before .before .before .before .before .before .args .x) (c .before .before .before .before .before .before .args .p) _ _ _ (c .before .enum-told .given .1) (c .add-right .ensures))
 
 pub right-at-spec : {M : Type 1} → statement M
 right-at-spec =

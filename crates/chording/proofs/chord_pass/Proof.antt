@@ -1,7 +1,6 @@
 -- `chording::chord_pass` meets its contract. The loop: the rounds from here lead to the outcome, and the closed cells bound them.
 use mathlib.Core.Path.{refl, ap, sym, _∙_}
 use mathlib.Core.List.{[]}
-use native.Mathlib.Omega.{arith}
 use lib.ListN.{length}
 use Rattle.chording.proofs.Chording.{Passing, toGo, passing-start, passing-asks, passing-turn, passing-less, passing-done}
 use Rattle.chording.proofs.chord_pass.Statement.{statement}
@@ -17,7 +16,7 @@ loop-holds : tie.Need-loop-holds Inv-loop μ-loop
 loop-holds c = passing-start _ _ _ _ (c .before .before .pre .0) (c .before .before .pre .1)
 
 chord-round-requires : tie.Need-chord-round-requires Inv-loop μ-loop
-chord-round-requires c κs = passing-asks _ _ _ _ (c .before .before .before .before .before .before .pre .0) _ _ _ _ (c .before .before .before .loop .inv) (omega arith)
+chord-round-requires c κs = passing-asks _ _ _ _ (c .before .before .before .before .before .before .pre .0) _ _ _ _ (c .before .before .before .loop .inv)
 
 goes-on-requires : tie.Need-goes-on-requires Inv-loop μ-loop
 goes-on-requires c κs = tt

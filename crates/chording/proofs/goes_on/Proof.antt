@@ -10,7 +10,7 @@ returns : tie.Need-returns
 returns c = simp (c .before .if1 .taken) (c .playing .ensures)
 
 returns-2 : tie.Need-returns-2
-returns-2 c = search needs
+returns-2 c = simp (c .if1 .left)
 
 pub goes-on-spec : {M : Type 1} → statement M
 goes-on-spec = tie.close (tie.spec playing-requires returns returns-2)

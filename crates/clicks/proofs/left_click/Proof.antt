@@ -38,13 +38,13 @@ lone-number-requires : tie.Need-lone-number-requires
 lone-number-requires c κs = let pre = c .before .before .before .before .before .before .before .before .before .pre in let own = c .before .before .before .face-at .ensures in let number = c .before .before .is-number .ensures .yes (c .before .if2 .taken) in (pre .0 .fits .mined, (pre .1 .1, ((λ e. number .0 (own ∙ e)), (λ e. number .1 (own ∙ e)))))
 
 left-number-requires : tie.Need-left-number-requires
-left-number-requires c κs = let pre = c .before .before .before .before .before .before .before .before .before .before .before .pre in (number-at _ (pre .0) (cell-lt _ _ _ _ (pre .1 .1 .0) (pre .1 .1 .1)) (c .before .before .before .before .before .before .if1 .left) (c .before .before .before .before .before .face-at .ensures) (c .before .before .before .before .is-number .ensures .yes (c .before .before .before .if2 .taken)) (c .before .lone-number .ensures), pre .1 .0)
+left-number-requires c κs = let pre = c .before .before .before .before .before .before .before .before .before .before .before .pre in (omega (arith, cell-lt _ _ _ _ (pre .1 .1 .0) (pre .1 .1 .1), pre .0 .fits .board), pre .1 .0)
 
 same-length : tie.Need-same-length
 same-length c = search needs
 
 returns-2 : tie.Need-returns-2
-returns-2 c = let n = c .before .before .left-number .ensures in λ bits. record { outcome = n .0 bits; same = refl; opened = n .1 }
+returns-2 c = let pre = c .before .before .before .before .before .before .before .before .before .before .before .before .before .before .pre in λ bits. record { outcome = c .before .before .left-number .ensures _ bits (number-at _ (pre .0) (cell-lt _ _ _ _ (pre .1 .1 .0) (pre .1 .1 .1)) (c .before .before .before .before .before .before .before .before .before .if1 .left) (c .before .before .before .before .before .before .before .before .face-at .ensures) (c .before .before .before .before .before .before .before .is-number .ensures .yes (c .before .before .before .before .before .before .if2 .taken)) (c .before .before .before .before .lone-number .ensures)); same = refl }
 
 add-left-requires-2 : tie.Need-add-left-requires-2
 add-left-requires-2 c κs = search needs

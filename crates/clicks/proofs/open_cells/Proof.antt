@@ -13,9 +13,6 @@ cast-columns c = search needs
 refresh-board-requires : tie.Need-refresh-board-requires
 refresh-board-requires c κs = search needs
 
-first-of-requires : tie.Need-first-of-requires
-first-of-requires c κs = search needs
-
 end-opening-requires : tie.Need-end-opening-requires
 end-opening-requires c κs = search needs
 
@@ -26,9 +23,7 @@ same-length-2 : tie.Need-same-length-2
 same-length-2 c = search needs
 
 returns : tie.Need-returns
-returns c =
-    let o = c .before .before .before .before .before .before .before .refresh-board .ensures in
-    opened-ends _ _ _ _ _ _ _ _ _ _ (o .0 .outcome) (c .end-opening .ensures .0) (o .0 .same) (o .1) (c .end-opening .ensures .1)
+returns c = opened-ends _ _ _ _ _ _ _ _ _ _ (c .before .before .before .before .before .refresh-board .ensures) (c .end-opening .ensures)
 
 pub open-cells-spec : {M : Type 1} → statement M
 open-cells-spec =
@@ -37,7 +32,6 @@ open-cells-spec =
     cast-rows
     cast-columns
     refresh-board-requires
-    first-of-requires
     end-opening-requires
     same-length
     same-length-2

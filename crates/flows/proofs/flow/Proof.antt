@@ -42,7 +42,7 @@ loop-again : tie.Need-loop-again Inv-loop μ-loop
 loop-again c = flow-run _ _ _ _ _ _ _ _ _ _ (c .before .before .before .before .before .before .before .before .before .before .before .pre .1 .1) _ _ (c .before .before .before .before .before .before .loop .o) _ (c .before .if1 .taken) (c .before .before .moves .ensures .0) (let f = c .before .before .before .before .before .before .loop .inv .lawful .few in let m = c .before .before .moves .ensures .1 in omega arith) (c .count-moves .ensures) (c .before .before .before .before .before .before .loop .inv)
 
 next-event-requires : tie.Need-next-event-requires Inv-loop μ-loop
-next-event-requires c κs = (c .before .before .before .before .before .before .before .before .loop .inv .lawful, (blank-kept (c .before .before .before .before .before .before .before .before .loop .o) (record { answer = 0; opened = 0; position = c .before .before .before .before .before .before .before .before .before .before .before .before .before .args .p }) (c .before .before .before .before .before .before .before .before .loop .inv .settings) (c .before .before .before .before .before .before .before .before .loop .inv .same) (c .before .before .before .before .before .before .before .before .before .before .before .before .before .pre .1 .0), event-left _ _ (c .before .before .before .before .before .before .before .before .before .before .before .before .before .pre .1 .1) (c .before .before .before .before .before .before .before .before .loop .inv .whole) (c .before .before .before .before .before .before .before .loop-test .taken)))
+next-event-requires c κs = (c .before .before .before .before .before .before .before .before .loop .inv .lawful, (blank-kept (c .before .before .before .before .before .before .before .before .loop .o) (record { answer = 0; position = c .before .before .before .before .before .before .before .before .before .before .before .before .before .args .p }) (c .before .before .before .before .before .before .before .before .loop .inv .settings) (c .before .before .before .before .before .before .before .before .loop .inv .same) (c .before .before .before .before .before .before .before .before .before .before .before .before .before .pre .1 .0), event-left _ _ (c .before .before .before .before .before .before .before .before .before .before .before .before .before .pre .1 .1) (c .before .before .before .before .before .before .before .before .loop .inv .whole) (c .before .before .before .before .before .before .before .loop-test .taken)))
 
 same-length : tie.Need-same-length Inv-loop μ-loop
 same-length c = flow-cells _ _ _ (c .before .before .before .before .before .before .before .before .before .before .before .before .before .before .before .before .before .loop .o) (c .before .before .before .before .before .before .before .before .next-event .result) _ _ _ _ _ _ (event-left _ _ (c .before .before .before .before .before .before .before .before .before .before .before .before .before .before .before .before .before .before .before .before .before .before .pre .1 .1) (c .before .before .before .before .before .before .before .before .before .before .before .before .before .before .before .before .before .loop .inv .whole) (c .before .before .before .before .before .before .before .before .before .before .before .before .before .before .before .before .loop-test .taken)) (c .before .before .before .before .before .before .before .before .next-event .ensures) _ _ _ _ _ (c .before .before .before .before .before .before .before .before .before .before .before .before .before .before .before .before .before .loop .inv)

@@ -1,13 +1,14 @@
 -- `flows::next_event` meets its contract.
-use mathlib.Core.Path.{_∙_, sym, refl}
+use mathlib.Core.Path.{_∙_, sym, refl, ap}
 use Prim.Native.Nat.{_+_}
 use native.Mathlib.Omega.{arith}
 use borrow.Author.Tests.{leb-true, leb-false}
 use lib.ListN.{getD}
+use Rattle.rules.specs.Step.{stepOn}
 use Rattle.keep.proofs.Step.{pointer-inside}
-use Rattle.cells.proofs.Contracts.{plays-by, plays-here}
+use Rattle.cells.proofs.Contracts.{leaves-by, leaves-here}
 use Rattle.game.proofs.Steps.{step-bad, step-decoded, step-full}
-use Rattle.flows.proofs.Briefs.{brief-played, brief-other, lawful-same, plays-same}
+use Rattle.flows.proofs.Briefs.{brief-played, brief-other, lawful-same, desk-same}
 use borrow.Author.Needs.{needs}
 use Rattle.flows.proofs.next_event.Statement.{statement}
 use Rattle.flows.proofs.next_event.Tie as tie
@@ -37,13 +38,13 @@ enum-told : tie.Need-enum-told
 enum-told c = search needs
 
 returns : tie.Need-returns
-returns c = let a = (c .before .before .before .before .before .before .before .before .before .before .before .args) in plays-here (step-bad (a .mines .now) (getD (a .events .now) (a .at) 0) (getD (a .events .now) (a .at + 1) 0) (getD (a .events .now) (a .at + 2) 0) (a .p) (a .shown .now) (a .bits .now) _ (c .before .before .decode .ensures) (c .enum-told .given .1)) refl
+returns c = let a = (c .before .before .before .before .before .before .before .before .before .before .before .args) in leaves-here (step-bad (a .mines .now) (getD (a .events .now) (a .at) 0) (getD (a .events .now) (a .at + 1) 0) (getD (a .events .now) (a .at + 2) 0) (a .p) (a .shown .now) (a .bits .now) _ (c .before .before .decode .ensures) (c .enum-told .given .1))
 
 is-full-requires : tie.Need-is-full-requires
 is-full-requires c κs = search needs
 
 returns-2 : tie.Need-returns-2
-returns-2 c = let a = (c .before .before .before .before .before .before .before .before .before .before .before .before .before .before .args) in plays-here (step-full (a .mines .now) (getD (a .events .now) (a .at) 0) _ (a .p) (a .shown .now) (a .bits .now) (leb-true 65535 (a .p .events) (sym (c .before .is-full .ensures) ∙ c .if1 .taken)) ∙ sym (step-decoded (a .mines .now) (getD (a .events .now) (a .at) 0) (getD (a .events .now) (a .at + 1) 0) (getD (a .events .now) (a .at + 2) 0) (a .p) (a .shown .now) (a .bits .now) _ (c .before .before .before .before .before .decode .ensures) _ (c .before .before .before .x .given .1))) refl
+returns-2 c = let a = (c .before .before .before .before .before .before .before .before .before .before .before .before .before .before .args) in leaves-here (step-full (a .mines .now) (getD (a .events .now) (a .at) 0) _ (a .p) (a .shown .now) (a .bits .now) (leb-true 65535 (a .p .events) (sym (c .before .is-full .ensures) ∙ c .if1 .taken)) ∙ sym (step-decoded (a .mines .now) (getD (a .events .now) (a .at) 0) (getD (a .events .now) (a .at + 1) 0) (getD (a .events .now) (a .at + 2) 0) (a .p) (a .shown .now) (a .bits .now) _ (c .before .before .before .before .before .decode .ensures) _ (c .before .before .before .x .given .1)))
 
 play-brief-requires : tie.Need-play-brief-requires
 play-brief-requires c κs = let a = (c .before .before .before .before .before .before .before .before .before .before .before .before .before .before .before .before .args) in (c .before .before .before .before .before .before .before .before .before .before .before .before .before .before .before .before .pre .0, ((pointer-inside (a .p .settings) (getD (a .events .now) (a .at + 1) 0) (getD (a .events .now) (a .at + 2) 0) _ (sym (c .before .before .before .before .before .before .before .decode .ensures) ∙ c .before .before .before .before .before .x .given .1)), (leb-false 65535 (a .p .events) (sym (c .before .before .before .is-full .ensures) ∙ c .before .before .if1 .left))))
@@ -70,7 +71,7 @@ same-length-2 : tie.Need-same-length-2
 same-length-2 c = search needs
 
 returns-3 : tie.Need-returns-3
-returns-3 c = let a = (c .before .before .before .before .before .before .before .before .before .before .before .before .before .before .before .before .before .before .before .before .before .before .before .before .before .before .args) in let h = brief-played (a .mines .now) (getD (a .events .now) (a .at) 0) _ (a .p) (a .shown .now) (a .bits .now) (c .before .before .before .before .before .before .before .before .before .play-brief .result) (c .before .before .before .before .before .before .before .before .before .play-brief .last .1 .1 .1 .1 .0) (c .before .before .before .before .before .before .before .before .before .play-brief .last .1 .1 .1 .1 .1 .0) (c .before .before .before .before .before .before .before .before .before .play-brief .ensures) _ _ (c .before .before .before .o .given .1) (c .counted .ensures) in record { outcome = h .0 ∙ sym (step-decoded (a .mines .now) (getD (a .events .now) (a .at) 0) (getD (a .events .now) (a .at + 1) 0) (getD (a .events .now) (a .at + 2) 0) (a .p) (a .shown .now) (a .bits .now) _ (c .before .before .before .before .before .before .before .before .before .before .before .before .before .before .before .before .before .decode .ensures) _ (c .before .before .before .before .before .before .before .before .before .before .before .before .before .before .before .x .given .1)); same = refl; opened = h .1 }
+returns-3 c = let a = (c .before .before .before .before .before .before .before .before .before .before .before .before .before .before .before .before .before .before .before .before .before .before .before .before .before .before .args) in record { outcome = brief-played (a .mines .now) (getD (a .events .now) (a .at) 0) _ (a .p) (a .shown .now) (a .bits .now) (c .before .before .before .before .before .before .before .before .before .play-brief .result) (c .before .before .before .before .before .before .before .before .before .play-brief .last .1 .1 .1 .1 .0) (c .before .before .before .before .before .before .before .before .before .play-brief .last .1 .1 .1 .1 .1 .0) (c .before .before .before .before .before .before .before .before .before .play-brief .ensures) _ _ (c .before .before .before .o .given .1) (c .counted .ensures) ∙ sym (step-decoded (a .mines .now) (getD (a .events .now) (a .at) 0) (getD (a .events .now) (a .at + 1) 0) (getD (a .events .now) (a .at + 2) 0) (a .p) (a .shown .now) (a .bits .now) _ (c .before .before .before .before .before .before .before .before .before .before .before .before .before .before .before .before .before .decode .ensures) _ (c .before .before .before .before .before .before .before .before .before .before .before .before .before .before .before .x .given .1)); same = refl }
 
 same-length-3 : tie.Need-same-length-3
 same-length-3 c = search needs
@@ -82,7 +83,7 @@ same-length-5 : tie.Need-same-length-5
 same-length-5 c = search needs
 
 returns-4 : tie.Need-returns-4
-returns-4 c = let a = (c .before .before .before .before .before .before .before .before .before .before .before .before .before .before .before .before .before .before .before .before .before .before .before .before .before .before .before .before .before .before .before .before .before .args) in let e = brief-other (a .mines .now) (getD (a .events .now) (a .at) 0) _ (a .p) (a .shown .now) (a .bits .now) (c .before .before .before .before .before .before .before .before .before .before .before .before .before .before .before .before .play-brief .result) (c .before .before .before .before .before .before .before .before .before .before .before .before .before .before .before .before .play-brief .last .1 .1 .1 .1 .0) (c .before .before .before .before .before .before .before .before .before .before .before .before .before .before .before .before .play-brief .last .1 .1 .1 .1 .1 .0) (c .before .before .before .before .before .before .before .before .before .before .before .before .before .before .before .before .play-brief .ensures) (c .before .before .before .before .before .before .before .before .before .before .enum-told2 .given .1) in plays-same (e .0) (e .1) (plays-by (c .before .before .before .before .before .before .step-at .ensures) (step-decoded (a .mines .now) (getD (a .events .now) (a .at) 0) (getD (a .events .now) (a .at + 1) 0) (getD (a .events .now) (a .at + 2) 0) (a .p) _ _ _ (c .before .before .before .before .before .before .before .before .before .before .before .before .before .before .before .before .before .before .before .before .before .before .before .before .decode .ensures) _ (c .before .before .before .before .before .before .before .before .before .before .before .before .before .before .before .before .before .before .before .before .before .before .x .given .1)))
+returns-4 c = let a = (c .before .before .before .before .before .before .before .before .before .before .before .before .before .before .before .before .before .before .before .before .before .before .before .before .before .before .before .before .before .before .before .before .before .args) in let e = brief-other (a .mines .now) (getD (a .events .now) (a .at) 0) _ (a .p) (a .shown .now) (a .bits .now) (c .before .before .before .before .before .before .before .before .before .before .before .before .before .before .before .before .play-brief .result) (c .before .before .before .before .before .before .before .before .before .before .before .before .before .before .before .before .play-brief .last .1 .1 .1 .1 .0) (c .before .before .before .before .before .before .before .before .before .before .before .before .before .before .before .before .play-brief .last .1 .1 .1 .1 .1 .0) (c .before .before .before .before .before .before .before .before .before .before .before .before .before .before .before .before .play-brief .ensures) (c .before .before .before .before .before .before .before .before .before .before .enum-told2 .given .1) in leaves-by (leaves-by (c .before .before .before .before .before .before .step-at .ensures) (step-decoded (a .mines .now) (getD (a .events .now) (a .at) 0) (getD (a .events .now) (a .at + 1) 0) (getD (a .events .now) (a .at + 2) 0) (a .p) _ _ _ (c .before .before .before .before .before .before .before .before .before .before .before .before .before .before .before .before .before .before .before .before .before .before .before .before .decode .ensures) _ (c .before .before .before .before .before .before .before .before .before .before .before .before .before .before .before .before .before .before .before .before .before .before .x .given .1))) (ap (stepOn (a .mines .now) (getD (a .events .now) (a .at) 0) (getD (a .events .now) (a .at + 1) 0) (getD (a .events .now) (a .at + 2) 0)) (desk-same (e .0) (e .1) (a .p)))
 
 pub next-event-spec : {M : Type 1} → statement M
 next-event-spec =

@@ -1,6 +1,6 @@
 -- `game::by_game` meets its contract.
 use borrow.Author.Needs.{needs}
-use Rattle.cells.proofs.Contracts.{plays-by, plays-here}
+use Rattle.cells.proofs.Contracts.{leaves-by, leaves-here}
 use Rattle.rules.specs.Step.{byGame}
 use Rattle.game.proofs.Steps.{lawful-asked}
 use Rattle.game.proofs.by_game.Statement.{statement}
@@ -47,7 +47,7 @@ same-length-3 c = search needs
 
 returns : tie.Need-returns
 unfolding byGame
-returns c = plays-by (c .before .before .before .before .before .before .ready .ensures) (simp (c .before .before .before .before .before .before .before .before .before .before .enum-told .given .1))
+returns c = leaves-by (c .before .before .before .before .before .before .ready .ensures) (simp (c .before .before .before .before .before .before .before .before .before .before .enum-told .given .1))
 
 same-length-4 : tie.Need-same-length-4
 same-length-4 c = search needs
@@ -60,7 +60,7 @@ same-length-6 c = search needs
 
 returns-2 : tie.Need-returns-2
 unfolding byGame
-returns-2 c = plays-by (c .before .before .before .before .before .before .pre-flaging .ensures) (simp (c .before .before .before .before .before .before .before .before .before .before .enum-told2 .given .1))
+returns-2 c = leaves-by (c .before .before .before .before .before .before .pre-flaging .ensures) (simp (c .before .before .before .before .before .before .before .before .before .before .enum-told2 .given .1))
 
 same-length-7 : tie.Need-same-length-7
 same-length-7 c = search needs
@@ -73,15 +73,15 @@ same-length-9 c = search needs
 
 returns-3 : tie.Need-returns-3
 unfolding byGame
-returns-3 c = plays-by (c .before .before .before .before .before .before .playing .ensures) (simp (c .before .before .before .before .before .before .before .before .before .before .enum-told3 .given .1))
+returns-3 c = leaves-by (c .before .before .before .before .before .before .playing .ensures) (simp (c .before .before .before .before .before .before .before .before .before .before .enum-told3 .given .1))
 
 returns-4 : tie.Need-returns-4
 unfolding byGame
-returns-4 c = plays-here (simp (c .before .enum-told4 .given .1, c .answered .ensures)) (rw (c .answered .ensures))
+returns-4 c = leaves-here (simp (c .before .enum-told4 .given .1, c .answered .ensures))
 
 returns-5 : tie.Need-returns-5
 unfolding byGame
-returns-5 c = plays-here (simp (c .before .enum-told5 .given .1, c .answered2 .ensures)) (rw (c .answered2 .ensures))
+returns-5 c = leaves-here (simp (c .before .enum-told5 .given .1, c .answered2 .ensures))
 
 pub by-game-spec : {M : Type 1} → statement M
 by-game-spec =

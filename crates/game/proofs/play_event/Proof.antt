@@ -23,7 +23,7 @@ same-length-3 : tie.Need-same-length-3
 same-length-3 c = search needs
 
 returns : tie.Need-returns
-returns c = let a = (c .before .before .before .before .before .before .before .before .before .before .before .before .before .before .before .args) in let o = (c .before .before .before .before .before .before .before .by-game) in event-counts _ (a .p) (a .e) (o .result) _ _ _ _ _ _ _ (o .ensures) (c .counted .ensures)
+returns c = let a = (c .before .before .before .before .before .before .before .before .before .before .before .before .before .before .before .args) in let o = (c .before .before .before .before .before .before .before .by-game) in record { outcome = event-counts _ (a .p) (a .e) (o .result) _ _ _ _ _ (o .ensures .outcome) (c .counted .ensures); same = o .ensures .same }
 
 pub play-event-spec : {M : Type 1} → statement M
 play-event-spec =

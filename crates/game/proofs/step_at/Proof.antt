@@ -1,6 +1,5 @@
 -- `game::step_at` meets its contract.
-use mathlib.Core.Path.{refl}
-use Rattle.cells.proofs.Contracts.{plays-by, plays-here}
+use Rattle.cells.proofs.Contracts.{leaves-by, leaves-here}
 use Rattle.game.proofs.Steps.{resolved-asks, resolved-refused, resolved-played, not-full}
 use borrow.Author.Needs.{needs}
 use Rattle.game.proofs.step_at.Statement.{statement}
@@ -16,7 +15,7 @@ same-length : tie.Need-same-length
 same-length c = search needs
 
 returns : tie.Need-returns
-returns c = let a = (c .before .before .before .before .before .before .before .args) in plays-here (resolved-refused (a .mines .now) (a .code) (a .x) (a .p) (a .shown .now) (a .bits .now) (c .before .before .before .resolve-at .result) (c .before .before .before .resolve-at .ensures _ _) _ (not-full (a .p) _ _ (c .before .before .before .before .before .before .before .pre .1 .1 .1) (c .before .event-refusal .ensures _)) (c .if1 .taken)) refl
+returns c = let a = (c .before .before .before .before .before .before .before .args) in leaves-here (resolved-refused (a .mines .now) (a .code) (a .x) (a .p) (a .shown .now) (a .bits .now) (c .before .before .before .resolve-at .result) (c .before .before .before .resolve-at .ensures _ _) _ (not-full (a .p) _ _ (c .before .before .before .before .before .before .before .pre .1 .1 .1) (c .before .event-refusal .ensures _)) (c .if1 .taken))
 
 with-middle-requires : tie.Need-with-middle-requires
 with-middle-requires c κs = search needs
@@ -34,7 +33,7 @@ same-length-4 : tie.Need-same-length-4
 same-length-4 c = search needs
 
 returns-2 : tie.Need-returns-2
-returns-2 c = let a = (c .before .before .before .before .before .before .before .before .before .before .before .before .before .before .before .before .before .before .args) in plays-by (c .before .before .before .before .before .before .play-event .ensures) (resolved-played (a .mines .now) (a .code) (a .x) (a .p) (a .shown .now) (a .bits .now) (c .before .before .before .before .before .before .before .before .before .before .before .before .before .before .resolve-at .result) (c .before .before .before .before .before .before .before .before .before .before .before .before .before .before .resolve-at .ensures _ _) _ (not-full (a .p) _ _ (c .before .before .before .before .before .before .before .before .before .before .before .before .before .before .before .before .before .before .pre .1 .1 .1) (c .before .before .before .before .before .before .before .before .before .before .before .before .event-refusal .ensures _)) (c .before .before .before .before .before .before .before .before .before .before .before .if1 .left) _ (c .before .before .before .before .before .before .before .before .before .before .with-middle .ensures))
+returns-2 c = let a = (c .before .before .before .before .before .before .before .before .before .before .before .before .before .before .before .before .before .before .args) in leaves-by (c .before .before .before .before .before .before .play-event .ensures) (resolved-played (a .mines .now) (a .code) (a .x) (a .p) (a .shown .now) (a .bits .now) (c .before .before .before .before .before .before .before .before .before .before .before .before .before .before .resolve-at .result) (c .before .before .before .before .before .before .before .before .before .before .before .before .before .before .resolve-at .ensures _ _) _ (not-full (a .p) _ _ (c .before .before .before .before .before .before .before .before .before .before .before .before .before .before .before .before .before .before .pre .1 .1 .1) (c .before .before .before .before .before .before .before .before .before .before .before .before .event-refusal .ensures _)) (c .before .before .before .before .before .before .before .before .before .before .before .if1 .left) _ (c .before .before .before .before .before .before .before .before .before .before .with-middle .ensures))
 
 pub step-at-spec : {M : Type 1} → statement M
 step-at-spec =

@@ -1,8 +1,8 @@
 -- `hands::chording_click` meets its contract: the chord, its count, and the passes after it.
 use mathlib.Core.Path.{_∙_}
 use native.Mathlib.Omega.{arith}
-use Rattle.hands.proofs.Hand.{chord-asks, chord-dce, chord-then, chord-room, chord-done}
 use borrow.Author.Needs.{needs}
+use Rattle.hands.proofs.Hand.{chord-asks, chord-dce, chord-then, chord-done}
 use Rattle.hands.proofs.chording_click.Statement.{statement}
 use Rattle.hands.proofs.chording_click.Tie as tie
 
@@ -21,20 +21,17 @@ add-dce-requires c κs = chord-dce _ _ _ _ _ _ (c .before .before .before .befor
 passes-after-chord-requires : tie.Need-passes-after-chord-requires
 passes-after-chord-requires c κs = chord-then _ _ _ _ _ _ (c .before .before .before .before .before .before .before .before .before .before .before .before .before .before .before .before .pre .0) _ (c .before .before .before .before .before .before .before .before .before .before .before .with-double .ensures) _ _ _ (c .before .before .before .before .before .before .before .before .perform-chord .ensures) _ (c .before .before .before .add-dce .ensures)
 
-add-opened : tie.Need-add-opened
-add-opened c = let m = chord-room _ _ _ _ _ _ (c .before .before .before .before .before .before .before .before .before .before .before .before .before .before .before .before .before .before .before .before .before .before .before .before .before .before .pre .0) _ (c .before .before .before .before .before .before .before .before .before .before .before .before .before .before .before .before .before .before .before .before .before .with-double .ensures) _ _ _ (c .before .before .before .before .before .before .before .before .before .before .before .before .before .before .before .before .before .before .perform-chord .ensures) _ (c .before .before .before .before .before .before .before .before .before .before .before .before .before .add-dce .ensures) _ _ _ _ (c .before .before .before .before .before .before .before .before .before .passes-after-chord .ensures) in omega (arith, m, c .before .before .before .before .before .before .before .before .before .before .before .before .before .before .before .before .before .before .before .before .before .before .before .before .before .before .pre .0 .laid .fits .board, c .before .before .before .before .before .before .before .before .before .before .before .before .before .before .before .before .before .before .before .before .before .before .before .before .before .before .pre .0 .laid .fits .mined .sized .cells, c .before .before .before .before .before .before .before .before .before .passes-after-chord .kept .1 .1 .0, c .before .before .before .before .before .before .before .before .before .before .before .before .before .before .before .before .before .before .perform-chord .kept .1 .1 .0)
-
 same-length : tie.Need-same-length
-same-length c = c .before .before .before .before .before .before .before .before .before .passes-after-chord .kept .1 .1 .0 ∙ c .before .before .before .before .before .before .before .before .before .before .before .before .before .before .before .before .before .before .perform-chord .kept .1 .1 .0
+same-length c = c .before .before .before .before .before .before .passes-after-chord .kept .1 .1 .0 ∙ c .before .before .before .before .before .before .before .before .before .before .before .before .before .before .before .perform-chord .kept .1 .1 .0
 
 same-length-2 : tie.Need-same-length-2
-same-length-2 c = c .before .before .before .before .before .before .before .before .before .passes-after-chord .kept .1 .1 .1 .0
+same-length-2 c = c .before .before .before .before .before .before .passes-after-chord .kept .1 .1 .1 .0
 
 same-length-3 : tie.Need-same-length-3
-same-length-3 c = c .before .before .before .before .before .before .before .before .before .passes-after-chord .kept .1 .1 .1 .1 .0 ∙ c .before .before .before .before .before .before .before .before .before .before .before .before .before .before .before .before .before .before .perform-chord .kept .1 .1 .1 .0
+same-length-3 c = c .before .before .before .before .before .before .passes-after-chord .kept .1 .1 .1 .1 .0 ∙ c .before .before .before .before .before .before .before .before .before .before .before .before .before .before .before .perform-chord .kept .1 .1 .1 .0
 
 returns : tie.Need-returns
-returns c = chord-done _ _ _ _ _ _ (c .before .before .before .before .before .before .before .before .before .before .before .before .before .before .before .before .before .before .before .before .before .before .before .before .before .before .pre .0) _ (c .before .before .before .before .before .before .before .before .before .before .before .before .before .before .before .before .before .before .before .before .before .with-double .ensures) _ _ _ (c .before .before .before .before .before .before .before .before .before .before .before .before .before .before .before .before .before .before .perform-chord .ensures) _ (c .before .before .before .before .before .before .before .before .before .before .before .before .before .add-dce .ensures) _ _ _ _ (c .before .before .before .before .before .before .before .before .before .passes-after-chord .ensures)
+returns c = chord-done _ _ _ _ _ _ (c .before .before .before .before .before .before .before .before .before .before .before .before .before .before .before .before .before .before .before .before .before .before .before .pre .0) _ (c .before .before .before .before .before .before .before .before .before .before .before .before .before .before .before .before .before .before .with-double .ensures) _ _ _ (c .before .before .before .before .before .before .before .before .before .before .before .before .before .before .before .perform-chord .ensures) _ (c .before .before .before .before .before .before .before .before .before .before .add-dce .ensures) _ _ (c .before .before .before .before .before .before .passes-after-chord .ensures)
 
 pub chording-click-spec : {M : Type 1} → statement M
 chording-click-spec =
@@ -45,7 +42,6 @@ chording-click-spec =
     perform-chord-requires
     add-dce-requires
     passes-after-chord-requires
-    add-opened
     same-length
     same-length-2
     same-length-3

@@ -45,10 +45,10 @@ cast-sums-2 : tie.Need-cast-sums-2
 cast-sums-2 c = search needs
 
 cast-result : tie.Need-cast-result
-cast-result c = omega (arith, c .struct-known12 .given)
+cast-result c = omega (arith, c .struct-known15 .given)
 
 returns : tie.Need-returns
-returns c = λ shown bits h. counts-is shown _ h _ bits
+returns c = λ B shown bits h e. counts-is shown _ h B _ e _ bits
 
 pub counts-lawful-spec : {M : Type 1} → statement M
 counts-lawful-spec =

@@ -15,7 +15,7 @@ is-not-flag-requires c κs = search needs
 
 returns : tie.Need-returns
 unfolding statesLawful
-returns c = λ bits. simp (← (c .before .is-not-flag .ensures), ← (c .before .before .rules-ok .ensures), ← (c .before .before .before .game-lawful .ensures bits))
+returns c = λ B shown bits h e. simp (← (c .before .is-not-flag .ensures), ← (c .before .before .rules-ok .ensures), ← (c .before .before .before .game-lawful .ensures B shown bits h e))
 
 pub states-lawful-spec : {M : Type 1} → statement M
 states-lawful-spec =

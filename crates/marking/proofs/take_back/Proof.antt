@@ -1,5 +1,5 @@
 -- `take_back`: a flag, a question mark, anything else.
-use mathlib.Core.Path.{sym, refl}
+use mathlib.Core.Path.{sym}
 use native.Mathlib.Omega.{arith}
 use Rattle.marking.proofs.Marks.{back-flag, back-question, back-open}
 use borrow.Author.Needs.{needs}
@@ -28,7 +28,7 @@ same-length : tie.Need-same-length
 same-length c = search needs
 
 returns : tie.Need-returns
-returns c = ((λ bits. simp (c .with-flag .ensures, c .before .before .before .before .before .add-right .ensures, c .before .before .after-flag .ensures) (sym (back-flag _ _ (c .before .before .before .if1 .taken)))), refl)
+returns c = λ bits. simp (c .with-flag .ensures, c .before .before .before .before .before .add-right .ensures, c .before .before .after-flag .ensures) (sym (back-flag _ _ (c .before .before .before .if1 .taken)))
 
 slice-write-shown-2 : tie.Need-slice-write-shown-2
 slice-write-shown-2 c = search needs
@@ -37,10 +37,10 @@ same-length-2 : tie.Need-same-length-2
 same-length-2 c = search needs
 
 returns-2 : tie.Need-returns-2
-returns-2 c = ((λ bits. simp (c .before .before .before .add-right .ensures) (sym (back-question _ _ (c .if2 .taken)))), refl)
+returns-2 c = λ bits. simp (c .before .before .before .add-right .ensures) (sym (back-question _ _ (c .if2 .taken)))
 
 returns-3 : tie.Need-returns-3
-returns-3 c = ((λ bits. simp (c .before .before .before .add-right .ensures) (sym (back-open _ _ (c .before .if1 .left) (c .if2 .left)))), refl)
+returns-3 c = λ bits. simp (c .before .before .before .add-right .ensures) (sym (back-open _ _ (c .before .if1 .left) (c .if2 .left)))
 
 pub take-back-spec : {M : Type 1} → statement M
 take-back-spec =

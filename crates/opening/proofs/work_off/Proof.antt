@@ -2,7 +2,8 @@
 use mathlib.Core.Path.{sym, _∙_}
 use Prim.Native.Nat.{_+_}
 use native.Mathlib.Omega.{arith}
-use Rattle.rules.specs.Lawful.{countShown, shows}
+use Rattle.rules.specs.Opening.{countShown}
+use Rattle.rules.specs.Lawful.{shows}
 use Rattle.opening.proofs.Going.{Going, going-start, going-asks, going-turn, going-done}
 use Rattle.cells.specs.Contracts.{Ticked}
 use Rattle.opening.proofs.Ticking.{ticked-none, ticked-room, ticked-then}

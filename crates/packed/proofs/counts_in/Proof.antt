@@ -22,8 +22,11 @@ four-at-requires-5 c κs = search needs
 four-at-requires-6 : tie.Need-four-at-requires-6
 four-at-requires-6 c κs = search needs
 
+four-at-requires-7 : tie.Need-four-at-requires-7
+four-at-requires-7 c κs = search needs
+
 returns : tie.Need-returns
-returns c = counts-read (c .before .before .before .before .before .before .args .s .now) (c .before .before .before .before .before .four-at .ensures) (c .before .before .before .before .four-at2 .ensures) (c .before .before .before .four-at3 .ensures) (c .before .before .four-at4 .ensures) (c .before .four-at5 .ensures) (c .four-at6 .ensures)
+returns c = counts-read (c .before .before .before .before .before .before .before .args .s .now) (c .before .before .before .before .before .before .four-at .ensures) (c .before .before .before .before .before .four-at2 .ensures) (c .before .before .before .before .four-at3 .ensures) (c .before .before .before .four-at4 .ensures) (c .before .before .four-at5 .ensures) (c .before .four-at6 .ensures) (c .four-at7 .ensures)
 
 pub counts-in-spec : {M : Type 1} → statement M
 counts-in-spec =
@@ -35,4 +38,5 @@ counts-in-spec =
     four-at-requires-4
     four-at-requires-5
     four-at-requires-6
+    four-at-requires-7
     returns)

@@ -23,7 +23,7 @@ same-length-3 : tie.Need-same-length-3
 same-length-3 c = c .before .before .before .before .before .before .chord-pass .kept .1 .1 .1 .0
 
 returns : tie.Need-returns
-returns c = turn-is _ _ _ _ (c .before .before .before .before .before .before .before .before .before .before .before .before .before .before .before .before .before .before .before .pre) (c .before .before .before .before .before .before .before .before .before .before .before .before .before .flag-pass .ensures) _ _ _ _ (c .before .before .before .before .before .before .chord-pass .ensures) refl (c .before .goes-on .ensures) refl
+returns c = turn-is _ _ _ _ (c .before .before .before .before .before .before .before .before .before .before .before .before .before .before .before .before .before .before .before .pre) (c .before .before .before .before .before .before .before .before .before .before .before .before .before .flag-pass .ensures) _ _ _ _ (c .before .before .before .before .before .before .chord-pass .ensures) refl (c .before .goes-on .ensures)
 
 pub both-round-spec : {M : Type 1} → statement M
 both-round-spec =

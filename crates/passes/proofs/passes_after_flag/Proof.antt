@@ -1,25 +1,23 @@
 -- `passes::passes_after_flag` meets its contract: at each return the tests say which pass followed.
 use mathlib.Core.Path.{sym, _∙_}
 use borrow.Author.Tests.{not-true, not-false}
+use Rattle.cells.proofs.Contracts.{leaves-by, leaves-here}
 use Rattle.passes.proofs.Turns.{prepared-flaggable}
-use Rattle.passes.proofs.After.{flag-over, flag-both, flag-alone, flag-none, runs-none, runs-by, runs-flag}
+use Rattle.passes.proofs.After.{flag-over, flag-both, flag-alone, flag-none}
 use Rattle.passes.proofs.passes_after_flag.Statement.{statement}
 use Rattle.passes.proofs.passes_after_flag.Tie as tie
 
 playing-requires : tie.Need-playing-requires
 playing-requires c κs = tt
 
-shut-requires : tie.Need-shut-requires
-shut-requires c κs = tt
-
 returns : tie.Need-returns
-returns c = runs-none (c .shut .ensures) (flag-over _ _ (sym (c .before .before .playing .ensures) ∙ not-true _ (c .before .if1 .taken)))
+returns c = leaves-here (sym (flag-over _ _ (sym (c .before .playing .ensures) ∙ not-true _ (c .if1 .taken))))
 
 one-of-requires : tie.Need-one-of-requires
 one-of-requires c κs = tt
 
 both-pass-requires : tie.Need-both-pass-requires
-both-pass-requires c κs = (c .before .before .before .before .before .before .before .before .before .before .pre)
+both-pass-requires c κs = c .before .before .before .before .before .before .before .before .before .before .pre
 
 same-length : tie.Need-same-length
 same-length c = c .before .before .before .before .before .before .both-pass .kept .1 .1 .0
@@ -31,7 +29,7 @@ same-length-3 : tie.Need-same-length-3
 same-length-3 c = c .before .before .before .before .before .before .both-pass .kept .1 .1 .1 .1 .0
 
 returns-2 : tie.Need-returns-2
-returns-2 c = runs-by (c .before .before .before .before .before .before .both-pass .ensures) (flag-both _ _ (sym (c .before .before .before .before .before .before .before .before .before .before .before .before .before .playing .ensures) ∙ not-false _ (c .before .before .before .before .before .before .before .before .before .before .before .before .if1 .left)) (sym (c .before .before .before .before .before .before .before .before .before .before .before .one-of .ensures) ∙ c .before .before .before .before .before .before .before .before .before .before .if2 .taken))
+returns-2 c = leaves-by (c .before .before .before .before .before .before .both-pass .ensures) (flag-both _ _ (sym (c .before .before .before .before .before .before .before .before .before .before .before .before .before .playing .ensures) ∙ not-false _ (c .before .before .before .before .before .before .before .before .before .before .before .before .if1 .left)) (sym (c .before .before .before .before .before .before .before .before .before .before .before .one-of .ensures) ∙ c .before .before .before .before .before .before .before .before .before .before .if2 .taken))
 
 one-of-requires-2 : tie.Need-one-of-requires-2
 one-of-requires-2 c κs = tt
@@ -39,30 +37,23 @@ one-of-requires-2 c κs = tt
 flag-pass-requires : tie.Need-flag-pass-requires
 flag-pass-requires c κs = prepared-flaggable _ _ _ (c .before .before .before .before .before .before .before .before .before .before .before .pre)
 
-shut-requires-2 : tie.Need-shut-requires-2
-shut-requires-2 c κs = tt
-
 same-length-4 : tie.Need-same-length-4
-same-length-4 c = c .before .before .before .before .before .flag-pass .kept .1 .1 .0
+same-length-4 c = c .before .before .before .before .flag-pass .kept .1 .1 .0
 
 same-length-5 : tie.Need-same-length-5
-same-length-5 c = c .before .before .before .before .before .flag-pass .kept .1 .1 .1 .0
+same-length-5 c = c .before .before .before .before .flag-pass .kept .1 .1 .1 .0
 
 returns-3 : tie.Need-returns-3
-returns-3 c = runs-by (runs-flag _ _ _ _ _ _ _ _ _ (c .before .before .before .before .before .flag-pass .ensures) (c .shut2 .ensures)) (flag-alone _ _ (sym (c .before .before .before .before .before .before .before .before .before .before .before .before .before .playing .ensures) ∙ not-false _ (c .before .before .before .before .before .before .before .before .before .before .before .before .if1 .left)) (sym (c .before .before .before .before .before .before .before .before .before .before .before .one-of .ensures) ∙ c .before .before .before .before .before .before .before .before .before .before .if2 .left) (sym (c .before .before .before .before .before .before .before .before .before .one-of2 .ensures) ∙ c .before .before .before .before .before .before .before .before .if3 .taken))
-
-shut-requires-3 : tie.Need-shut-requires-3
-shut-requires-3 c κs = tt
+returns-3 c = leaves-here (c .before .before .before .before .flag-pass .ensures ∙ sym (flag-alone _ _ (sym (c .before .before .before .before .before .before .before .before .before .before .before .before .playing .ensures) ∙ not-false _ (c .before .before .before .before .before .before .before .before .before .before .before .if1 .left)) (sym (c .before .before .before .before .before .before .before .before .before .before .one-of .ensures) ∙ c .before .before .before .before .before .before .before .before .before .if2 .left) (sym (c .before .before .before .before .before .before .before .before .one-of2 .ensures) ∙ c .before .before .before .before .before .before .before .if3 .taken)))
 
 returns-4 : tie.Need-returns-4
-returns-4 c = runs-none (c .shut3 .ensures) (flag-none _ _ (sym (c .before .before .before .before .before .before .playing .ensures) ∙ not-false _ (c .before .before .before .before .before .if1 .left)) (sym (c .before .before .before .before .one-of .ensures) ∙ c .before .before .before .if2 .left) (sym (c .before .before .one-of2 .ensures) ∙ c .before .if3 .left))
+returns-4 c = leaves-here (sym (flag-none _ _ (sym (c .before .before .before .before .before .playing .ensures) ∙ not-false _ (c .before .before .before .before .if1 .left)) (sym (c .before .before .before .one-of .ensures) ∙ c .before .before .if2 .left) (sym (c .before .one-of2 .ensures) ∙ c .if3 .left)))
 
 pub passes-after-flag-spec : {M : Type 1} → statement M
 passes-after-flag-spec =
     tie.close
     (tie.spec
     playing-requires
-    shut-requires
     returns
     one-of-requires
     both-pass-requires
@@ -72,9 +63,7 @@ passes-after-flag-spec =
     returns-2
     one-of-requires-2
     flag-pass-requires
-    shut-requires-2
     same-length-4
     same-length-5
     returns-3
-    shut-requires-3
     returns-4)

@@ -1,6 +1,6 @@
 -- `playing::play_mr` meets its contract.
 use borrow.Author.Needs.{needs}
-use Rattle.cells.proofs.Contracts.{plays-by}
+use Rattle.cells.proofs.Contracts.{leaves-by}
 use Rattle.playing.proofs.Cases.{play-mr-chord}
 use Rattle.playing.proofs.play_mr.Statement.{statement}
 use Rattle.playing.proofs.play_mr.Tie as tie
@@ -21,7 +21,7 @@ same-length-3 : tie.Need-same-length-3
 same-length-3 c = search needs
 
 returns : tie.Need-returns
-returns c = plays-by (c .before .before .before .before .before .before .chord-at .ensures) (play-mr-chord _ (c .before .before .before .before .before .before .before .before .before .before .before .before .before .before .args .x) (c .before .before .before .before .before .before .before .before .before .before .before .before .before .before .args .p) _ _ _ (c .before .before .before .before .before .before .before .before .before .before .with-middle .ensures))
+returns c = leaves-by (c .before .before .before .before .before .before .chord-at .ensures) (play-mr-chord _ (c .before .before .before .before .before .before .before .before .before .before .before .before .before .before .args .x) (c .before .before .before .before .before .before .before .before .before .before .before .before .before .before .args .p) _ _ _ (c .before .before .before .before .before .before .before .before .before .before .with-middle .ensures))
 
 pub play-mr-spec : {M : Type 1} → statement M
 play-mr-spec =

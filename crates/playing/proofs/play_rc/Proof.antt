@@ -1,6 +1,5 @@
 -- `playing::play_rc` meets its contract.
-use mathlib.Core.Path.{refl}
-use Rattle.cells.proofs.Contracts.{plays-by, plays-here}
+use Rattle.cells.proofs.Contracts.{leaves-by, leaves-here}
 use Rattle.buttons.proofs.Plays.{alike-moved, alike-at}
 use Rattle.playing.proofs.Cases.{play-rc-flag, play-rc-none, play-rc-moved}
 use borrow.Author.Needs.{needs}
@@ -14,7 +13,7 @@ moved-requires : tie.Need-moved-requires
 moved-requires c κs = search needs
 
 returns : tie.Need-returns
-returns c = plays-here (play-rc-moved _ (c .before .before .before .before .before .before .args .x) (c .before .before .before .before .before .before .args .p) _ _ _ _ (c .before .before .mouse-number .ensures) (c .before .if1 .taken) (c .moved .ensures)) refl
+returns c = leaves-here (play-rc-moved _ (c .before .before .before .before .before .before .args .x) (c .before .before .before .before .before .before .args .p) _ _ _ _ (c .before .before .mouse-number .ensures) (c .before .if1 .taken) (c .moved .ensures))
 
 seen-at-requires : tie.Need-seen-at-requires
 seen-at-requires c κs = search needs
@@ -35,7 +34,7 @@ same-length-3 : tie.Need-same-length-3
 same-length-3 c = search needs
 
 returns-2 : tie.Need-returns-2
-returns-2 c = plays-by (c .before .before .before .before .before .before .right-at .ensures) (play-rc-flag _ (c .before .before .before .before .before .before .before .before .before .before .before .before .before .before .before .before .before .before .before .args .x) (c .before .before .before .before .before .before .before .before .before .before .before .before .before .before .before .before .before .before .before .args .p) _ _ _ _ (c .before .before .before .before .before .before .before .before .before .before .before .before .before .before .before .mouse-number .ensures) _ (c .before .before .before .before .before .before .before .before .before .before .before .before .before .before .if1 .left) (c .before .before .before .before .before .before .before .before .before .before .before .before .seen-at .ensures _) (c .before .before .before .before .before .before .before .before .before .before .before .if2 .taken) (c .before .before .before .before .before .before .before .before .before .before .moved2 .ensures))
+returns-2 c = leaves-by (c .before .before .before .before .before .before .right-at .ensures) (play-rc-flag _ (c .before .before .before .before .before .before .before .before .before .before .before .before .before .before .before .before .before .before .before .args .x) (c .before .before .before .before .before .before .before .before .before .before .before .before .before .before .before .before .before .before .before .args .p) _ _ _ _ (c .before .before .before .before .before .before .before .before .before .before .before .before .before .before .before .mouse-number .ensures) _ (c .before .before .before .before .before .before .before .before .before .before .before .before .before .before .if1 .left) (c .before .before .before .before .before .before .before .before .before .before .before .before .seen-at .ensures _) (c .before .before .before .before .before .before .before .before .before .before .before .if2 .taken) (c .before .before .before .before .before .before .before .before .before .before .moved2 .ensures))
 
 with-mouse-requires : tie.Need-with-mouse-requires
 with-mouse-requires c κs = search needs
@@ -53,7 +52,7 @@ same-length-6 : tie.Need-same-length-6
 same-length-6 c = search needs
 
 returns-3 : tie.Need-returns-3
-returns-3 c = plays-by (c .before .before .before .before .before .before .right-at2 .ensures) (play-rc-none _ (c .before .before .before .before .before .before .before .before .before .before .before .before .before .before .before .before .before .before .before .args .x) (c .before .before .before .before .before .before .before .before .before .before .before .before .before .before .before .before .before .before .before .args .p) _ _ _ _ (c .before .before .before .before .before .before .before .before .before .before .before .before .before .before .before .mouse-number .ensures) _ (c .before .before .before .before .before .before .before .before .before .before .before .before .before .before .if1 .left) (c .before .before .before .before .before .before .before .before .before .before .before .before .seen-at .ensures _) (c .before .before .before .before .before .before .before .before .before .before .before .if2 .left) (c .before .before .before .before .before .before .before .before .before .before .with-mouse .ensures))
+returns-3 c = leaves-by (c .before .before .before .before .before .before .right-at2 .ensures) (play-rc-none _ (c .before .before .before .before .before .before .before .before .before .before .before .before .before .before .before .before .before .before .before .args .x) (c .before .before .before .before .before .before .before .before .before .before .before .before .before .before .before .before .before .before .before .args .p) _ _ _ _ (c .before .before .before .before .before .before .before .before .before .before .before .before .before .before .before .mouse-number .ensures) _ (c .before .before .before .before .before .before .before .before .before .before .before .before .before .before .if1 .left) (c .before .before .before .before .before .before .before .before .before .before .before .before .seen-at .ensures _) (c .before .before .before .before .before .before .before .before .before .before .before .if2 .left) (c .before .before .before .before .before .before .before .before .before .before .with-mouse .ensures))
 
 pub play-rc-spec : {M : Type 1} → statement M
 play-rc-spec =

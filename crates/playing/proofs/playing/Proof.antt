@@ -1,6 +1,6 @@
 -- `playing::playing` meets its contract.
 use borrow.Author.Needs.{needs}
-use Rattle.cells.proofs.Contracts.{plays-by, plays-here}
+use Rattle.cells.proofs.Contracts.{leaves-by, leaves-here}
 use Rattle.buttons.proofs.Plays.{inside-event}
 use Rattle.rules.specs.Step.{playing}
 use Rattle.playing.proofs.playing.Statement.{statement}
@@ -68,7 +68,7 @@ answered-requires-3 c κs = search needs
 
 returns : tie.Need-returns
 unfolding playing
-returns c = plays-here (simp (c .before .before .e .given .1) (c .play-lc .ensures .0 _ _)) (c .play-lc .ensures .1)
+returns c = leaves-here (simp (c .before .before .e .given .1) (c .play-lc .ensures _ _))
 
 same-length : tie.Need-same-length
 same-length c = search needs
@@ -81,7 +81,7 @@ same-length-3 c = search needs
 
 returns-2 : tie.Need-returns-2
 unfolding playing
-returns-2 c = plays-by (c .before .before .before .before .before .before .play-lr .ensures) (simp (c .before .before .before .before .before .before .before .before .before .before .before .e2 .given .1))
+returns-2 c = leaves-by (c .before .before .before .before .before .before .play-lr .ensures) (simp (c .before .before .before .before .before .before .before .before .before .before .before .e2 .given .1))
 
 same-length-4 : tie.Need-same-length-4
 same-length-4 c = search needs
@@ -94,7 +94,7 @@ same-length-6 c = search needs
 
 returns-3 : tie.Need-returns-3
 unfolding playing
-returns-3 c = plays-by (c .before .before .before .before .before .before .play-rc .ensures) (simp (c .before .before .before .before .before .before .before .before .before .before .before .e3 .given .1))
+returns-3 c = leaves-by (c .before .before .before .before .before .before .play-rc .ensures) (simp (c .before .before .before .before .before .before .before .before .before .before .before .e3 .given .1))
 
 same-length-7 : tie.Need-same-length-7
 same-length-7 c = search needs
@@ -107,15 +107,15 @@ same-length-9 c = search needs
 
 returns-4 : tie.Need-returns-4
 unfolding playing
-returns-4 c = plays-by (c .before .before .before .before .before .before .play-rr .ensures) (simp (c .before .before .before .before .before .before .before .before .before .before .before .e4 .given .1))
+returns-4 c = leaves-by (c .before .before .before .before .before .before .play-rr .ensures) (simp (c .before .before .before .before .before .before .before .before .before .before .before .e4 .given .1))
 
 returns-5 : tie.Need-returns-5
 unfolding playing
-returns-5 c = plays-here (simp (c .before .enum-told .given .1, c .answered .ensures)) (rw (c .answered .ensures))
+returns-5 c = leaves-here (simp (c .before .enum-told .given .1, c .answered .ensures))
 
 returns-6 : tie.Need-returns-6
 unfolding playing
-returns-6 c = plays-here (simp (c .before .enum-told2 .given .1, c .middled .ensures)) (rw (c .middled .ensures))
+returns-6 c = leaves-here (simp (c .before .enum-told2 .given .1, c .middled .ensures))
 
 same-length-10 : tie.Need-same-length-10
 same-length-10 c = search needs
@@ -128,19 +128,19 @@ same-length-12 c = search needs
 
 returns-7 : tie.Need-returns-7
 unfolding playing
-returns-7 c = plays-by (c .before .before .before .before .before .before .play-mr .ensures) (simp (c .before .before .before .before .before .before .before .before .before .before .before .e5 .given .1))
+returns-7 c = leaves-by (c .before .before .before .before .before .before .play-mr .ensures) (simp (c .before .before .before .before .before .before .before .before .before .before .before .e5 .given .1))
 
 returns-8 : tie.Need-returns-8
 unfolding playing
-returns-8 c = plays-here (simp (c .before .enum-told3 .given .1, c .moves .ensures)) (rw (c .moves .ensures))
+returns-8 c = leaves-here (simp (c .before .enum-told3 .given .1, c .moves .ensures))
 
 returns-9 : tie.Need-returns-9
 unfolding playing
-returns-9 c = plays-here (simp (c .before .enum-told4 .given .1, c .answered2 .ensures)) (rw (c .answered2 .ensures))
+returns-9 c = leaves-here (simp (c .before .enum-told4 .given .1, c .answered2 .ensures))
 
 returns-10 : tie.Need-returns-10
 unfolding playing
-returns-10 c = plays-here (simp (c .before .enum-told5 .given .1, c .answered3 .ensures)) (rw (c .answered3 .ensures))
+returns-10 c = leaves-here (simp (c .before .enum-told5 .given .1, c .answered3 .ensures))
 
 pub playing-spec : {M : Type 1} → statement M
 playing-spec =

@@ -1,6 +1,6 @@
 -- `events::pre_flaging` meets its contract.
 use borrow.Author.Needs.{needs}
-use Rattle.cells.proofs.Contracts.{plays-by, plays-here}
+use Rattle.cells.proofs.Contracts.{leaves-by, leaves-here}
 use Rattle.buttons.proofs.Plays.{inside-event}
 use Rattle.rules.specs.Step.{preFlaging}
 use Rattle.preflaging.proofs.pre_flaging.Statement.{statement}
@@ -68,7 +68,7 @@ answered-requires-2 c κs = search needs
 
 returns : tie.Need-returns
 unfolding preFlaging
-returns c = plays-here (simp (c .before .before .e .given .1) (c .play-lc .ensures .0 _ _)) (c .play-lc .ensures .1)
+returns c = leaves-here (simp (c .before .before .e .given .1) (c .play-lc .ensures _ _))
 
 same-length : tie.Need-same-length
 same-length c = search needs
@@ -81,7 +81,7 @@ same-length-3 c = search needs
 
 returns-2 : tie.Need-returns-2
 unfolding preFlaging
-returns-2 c = plays-by (c .before .before .before .before .before .before .pre-lr .ensures) (simp (c .before .before .before .before .before .before .before .before .before .before .before .e2 .given .1))
+returns-2 c = leaves-by (c .before .before .before .before .before .before .pre-lr .ensures) (simp (c .before .before .before .before .before .before .before .before .before .before .before .e2 .given .1))
 
 same-length-4 : tie.Need-same-length-4
 same-length-4 c = search needs
@@ -94,7 +94,7 @@ same-length-6 c = search needs
 
 returns-3 : tie.Need-returns-3
 unfolding preFlaging
-returns-3 c = plays-by (c .before .before .before .before .before .before .pre-rc .ensures) (simp (c .before .before .before .before .before .before .before .before .before .before .before .e3 .given .1))
+returns-3 c = leaves-by (c .before .before .before .before .before .before .pre-rc .ensures) (simp (c .before .before .before .before .before .before .before .before .before .before .before .e3 .given .1))
 
 same-length-7 : tie.Need-same-length-7
 same-length-7 c = search needs
@@ -107,23 +107,23 @@ same-length-9 c = search needs
 
 returns-4 : tie.Need-returns-4
 unfolding preFlaging
-returns-4 c = plays-by (c .before .before .before .before .before .before .play-rr .ensures) (simp (c .before .before .before .before .before .before .before .before .before .before .before .e4 .given .1))
+returns-4 c = leaves-by (c .before .before .before .before .before .before .play-rr .ensures) (simp (c .before .before .before .before .before .before .before .before .before .before .before .e4 .given .1))
 
 returns-5 : tie.Need-returns-5
 unfolding preFlaging
-returns-5 c = plays-here (simp (c .before .enum-told .given .1, c .answered .ensures)) (rw (c .answered .ensures))
+returns-5 c = leaves-here (simp (c .before .enum-told .given .1, c .answered .ensures))
 
 returns-6 : tie.Need-returns-6
 unfolding preFlaging
-returns-6 c = plays-here (simp (c .before .enum-told2 .given .1, c .middled .ensures)) (rw (c .middled .ensures))
+returns-6 c = leaves-here (simp (c .before .enum-told2 .given .1, c .middled .ensures))
 
 returns-7 : tie.Need-returns-7
 unfolding preFlaging
-returns-7 c = plays-here (simp (c .before .enum-told3 .given .1, c .middled2 .ensures)) (rw (c .middled2 .ensures))
+returns-7 c = leaves-here (simp (c .before .enum-told3 .given .1, c .middled2 .ensures))
 
 returns-8 : tie.Need-returns-8
 unfolding preFlaging
-returns-8 c = plays-here (simp (c .before .before .e5 .given .1) (c .moves-back .ensures .0 _ _)) (c .moves-back .ensures .1)
+returns-8 c = leaves-here (simp (c .before .before .e5 .given .1) (c .moves-back .ensures _ _))
 
 same-length-10 : tie.Need-same-length-10
 same-length-10 c = search needs
@@ -136,11 +136,11 @@ same-length-12 c = search needs
 
 returns-9 : tie.Need-returns-9
 unfolding preFlaging
-returns-9 c = plays-by (c .before .before .before .before .before .before .pre-flag .ensures) (simp (c .before .before .before .before .before .before .before .before .before .before .before .e6 .given .1))
+returns-9 c = leaves-by (c .before .before .before .before .before .before .pre-flag .ensures) (simp (c .before .before .before .before .before .before .before .before .before .before .before .e6 .given .1))
 
 returns-10 : tie.Need-returns-10
 unfolding preFlaging
-returns-10 c = plays-here (simp (c .before .enum-told4 .given .1, c .answered2 .ensures)) (rw (c .answered2 .ensures))
+returns-10 c = leaves-here (simp (c .before .enum-told4 .given .1, c .answered2 .ensures))
 
 pub pre-flaging-spec : {M : Type 1} → statement M
 pre-flaging-spec =

@@ -1,6 +1,6 @@
 -- `ready::pre_lr` meets its contract.
 use borrow.Author.Needs.{needs}
-use Rattle.cells.proofs.Contracts.{plays-by}
+use Rattle.cells.proofs.Contracts.{leaves-by}
 use Rattle.buttons.proofs.Plays.{alike-moved, alike-at}
 use Rattle.preflaging.proofs.Cases.{pre-lr-left, pre-lr-play}
 use Rattle.preflaging.proofs.pre_lr.Statement.{statement}
@@ -25,7 +25,7 @@ same-length-3 : tie.Need-same-length-3
 same-length-3 c = search needs
 
 returns : tie.Need-returns
-returns c = plays-by (c .before .before .before .before .before .before .pre-left .ensures) (pre-lr-left _ (c .before .before .before .before .before .before .before .before .before .before .before .before .before .before .before .before .args .x) (c .before .before .before .before .before .before .before .before .before .before .before .before .before .before .before .before .args .p) _ _ _ _ (c .before .before .before .before .before .before .before .before .before .before .before .before .mouse-number .ensures) (c .before .before .before .before .before .before .before .before .before .before .before .if1 .taken) (c .before .before .before .before .before .before .before .before .before .before .moved .ensures))
+returns c = leaves-by (c .before .before .before .before .before .before .pre-left .ensures) (pre-lr-left _ (c .before .before .before .before .before .before .before .before .before .before .before .before .before .before .before .before .args .x) (c .before .before .before .before .before .before .before .before .before .before .before .before .before .before .before .before .args .p) _ _ _ _ (c .before .before .before .before .before .before .before .before .before .before .before .before .mouse-number .ensures) (c .before .before .before .before .before .before .before .before .before .before .before .if1 .taken) (c .before .before .before .before .before .before .before .before .before .before .moved .ensures))
 
 play-lr-requires : tie.Need-play-lr-requires
 play-lr-requires c κs = (c .before .before .before .before .before .before .before .before .pre)
@@ -40,7 +40,7 @@ same-length-6 : tie.Need-same-length-6
 same-length-6 c = search needs
 
 returns-2 : tie.Need-returns-2
-returns-2 c = plays-by (c .before .before .before .before .before .before .play-lr .ensures) (pre-lr-play _ (c .before .before .before .before .before .before .before .before .before .before .before .before .before .before .before .args .x) (c .before .before .before .before .before .before .before .before .before .before .before .before .before .before .before .args .p) (c .before .before .before .before .before .before .before .before .before .before .before .before .before .before .before .args .p) _ _ _ (c .before .before .before .before .before .before .before .before .before .before .before .mouse-number .ensures) (c .before .before .before .before .before .before .before .before .before .before .if1 .left))
+returns-2 c = leaves-by (c .before .before .before .before .before .before .play-lr .ensures) (pre-lr-play _ (c .before .before .before .before .before .before .before .before .before .before .before .before .before .before .before .args .x) (c .before .before .before .before .before .before .before .before .before .before .before .before .before .before .before .args .p) (c .before .before .before .before .before .before .before .before .before .before .before .before .before .before .before .args .p) _ _ _ (c .before .before .before .before .before .before .before .before .before .before .before .mouse-number .ensures) (c .before .before .before .before .before .before .before .before .before .before .if1 .left))
 
 pub pre-lr-spec : {M : Type 1} → statement M
 pre-lr-spec =

@@ -1,5 +1,5 @@
 -- `ready::moves_back` meets its contract.
-use mathlib.Core.Path.{_∙_, sym, refl}
+use mathlib.Core.Path.{_∙_, sym}
 use mathlib.Core.List.{[]}
 use borrow.Author.Needs.{needs}
 use Rattle.preflags.proofs.Cases.{moves-back-yes, moves-back-no}
@@ -16,10 +16,10 @@ with-game-requires : tie.Need-with-game-requires
 with-game-requires c κs = search needs
 
 returns : tie.Need-returns
-returns c = ((λ shown bits. moves-back-yes [] (c .before .before .before .before .args .x) (c .before .before .before .before .args .p) _ shown bits (c .before .before .before .before .args .e) _ (sym (c .before .before .back-to-ready .ensures shown bits) ∙ c .before .if1 .taken) (c .before .before .before .moved .ensures) (c .with-game .ensures)), refl)
+returns c = λ shown bits. moves-back-yes [] (c .before .before .before .before .args .x) (c .before .before .before .before .args .p) _ shown bits (c .before .before .before .before .args .e) _ (sym (c .before .before .back-to-ready .ensures shown bits) ∙ c .before .if1 .taken) (c .before .before .before .moved .ensures) (c .with-game .ensures)
 
 returns-2 : tie.Need-returns-2
-returns-2 c = ((λ shown bits. moves-back-no [] (c .before .before .before .args .x) (c .before .before .before .args .p) _ shown bits (c .before .before .before .args .e) (sym (c .before .back-to-ready .ensures shown bits) ∙ c .if1 .left) (c .before .before .moved .ensures)), refl)
+returns-2 c = λ shown bits. moves-back-no [] (c .before .before .before .args .x) (c .before .before .before .args .p) _ shown bits (c .before .before .before .args .e) (sym (c .before .back-to-ready .ensures shown bits) ∙ c .if1 .left) (c .before .before .moved .ensures)
 
 pub moves-back-spec : {M : Type 1} → statement M
 moves-back-spec =

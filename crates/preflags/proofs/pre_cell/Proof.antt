@@ -1,8 +1,8 @@
 -- `preflags::pre_cell` meets its contract.
 use mathlib.Core.Path.{_∙_, sym, refl}
 use borrow.Author.Needs.{needs}
-use Rattle.cells.proofs.Contracts.{plays-by}
-use Rattle.preflags.proofs.Cases.{pre-cell-more, pre-cell-last, pre-cell-less, pre-cell-question, last-ticked}
+use Rattle.cells.proofs.Contracts.{leaves-by}
+use Rattle.preflags.proofs.Cases.{pre-cell-more, pre-cell-last, pre-cell-less, pre-cell-question}
 use Rattle.preflags.proofs.pre_cell.Statement.{statement}
 use Rattle.preflags.proofs.pre_cell.Tie as tie
 
@@ -28,7 +28,7 @@ same-length-3 : tie.Need-same-length-3
 same-length-3 c = search needs
 
 returns : tie.Need-returns
-returns c = plays-by (c .before .before .before .before .before .before .right-click .ensures) (pre-cell-more _ (c .before .before .before .before .before .before .before .before .before .before .before .before .before .before .before .before .before .args .i) (c .before .before .before .before .before .before .before .before .before .before .before .before .before .before .before .before .before .args .p) _ _ _ (c .before .before .before .before .before .before .before .before .before .before .before .before .if1 .taken) (c .before .before .before .before .before .before .before .before .before .before .with-preflags .ensures))
+returns c = leaves-by (c .before .before .before .before .before .before .right-click .ensures) (pre-cell-more _ (c .before .before .before .before .before .before .before .before .before .before .before .before .before .before .before .before .before .args .i) (c .before .before .before .before .before .before .before .before .before .before .before .before .before .before .before .before .before .args .p) _ _ _ (c .before .before .before .before .before .before .before .before .before .before .before .before .if1 .taken) (c .before .before .before .before .before .before .before .before .before .before .with-preflags .ensures))
 
 is-last-requires : tie.Need-is-last-requires
 is-last-requires c κs = search needs
@@ -43,7 +43,7 @@ same-length-5 : tie.Need-same-length-5
 same-length-5 c = search needs
 
 returns-2 : tie.Need-returns-2
-returns-2 c = record { outcome = pre-cell-last _ (c .before .before .before .before .before .before .before .before .before .before .before .before .before .before .before .args .i) (c .before .before .before .before .before .before .before .before .before .before .before .before .before .before .before .args .p) _ _ _ (c .before .before .before .before .before .before .before .before .before .before .if1 .left) (c .before .before .before .before .before .before .before .before .before .if2 .taken) _ _ (sym (c .before .before .before .before .before .before .before .before .is-last .ensures) ∙ c .before .before .before .before .before .before .before .if3 .taken) (c .before .before .before .before .take-last-back .ensures); same = refl; opened = last-ticked _ (c .before .before .before .before .before .before .before .before .before .before .before .before .before .before .before .args .p) _ _ (c .before .before .before .before .before .before .before .before .before .before .before .before .before .before .before .args .bits .now) _ _ (c .before .before .before .before .before .before .before .before .before .if2 .taken) (c .before .before .before .before .take-last-back .ensures) }
+returns-2 c = record { outcome = pre-cell-last _ (c .before .before .before .before .before .before .before .before .before .before .before .before .before .before .before .args .i) (c .before .before .before .before .before .before .before .before .before .before .before .before .before .before .before .args .p) _ _ _ (c .before .before .before .before .before .before .before .before .before .before .if1 .left) (c .before .before .before .before .before .before .before .before .before .if2 .taken) _ _ (sym (c .before .before .before .before .before .before .before .before .is-last .ensures) ∙ c .before .before .before .before .before .before .before .if3 .taken) (c .before .before .before .before .take-last-back .ensures); same = refl }
 
 sub-n : tie.Need-sub-n
 sub-n c = c .before .before .before .before .before .before .before .before .before .pre .1 .1 .1 (c .before .before .before .if2 .taken)
@@ -64,7 +64,7 @@ same-length-8 : tie.Need-same-length-8
 same-length-8 c = search needs
 
 returns-3 : tie.Need-returns-3
-returns-3 c = plays-by (c .before .before .before .before .before .before .right-click2 .ensures) (pre-cell-less _ (c .before .before .before .before .before .before .before .before .before .before .before .before .before .before .before .before .before .before .before .before .args .i) (c .before .before .before .before .before .before .before .before .before .before .before .before .before .before .before .before .before .before .before .before .args .p) _ _ _ (c .before .before .before .before .before .before .before .before .before .before .before .before .before .before .before .if1 .left) (c .before .before .before .before .before .before .before .before .before .before .before .before .before .before .if2 .taken) (sym (c .before .before .before .before .before .before .before .before .before .before .before .before .before .is-last .ensures) ∙ c .before .before .before .before .before .before .before .before .before .before .before .before .if3 .left) (c .before .before .before .before .before .before .before .before .before .before .with-preflags2 .ensures))
+returns-3 c = leaves-by (c .before .before .before .before .before .before .right-click2 .ensures) (pre-cell-less _ (c .before .before .before .before .before .before .before .before .before .before .before .before .before .before .before .before .before .before .before .before .args .i) (c .before .before .before .before .before .before .before .before .before .before .before .before .before .before .before .before .before .before .before .before .args .p) _ _ _ (c .before .before .before .before .before .before .before .before .before .before .before .before .before .before .before .if1 .left) (c .before .before .before .before .before .before .before .before .before .before .before .before .before .before .if2 .taken) (sym (c .before .before .before .before .before .before .before .before .before .before .before .before .before .is-last .ensures) ∙ c .before .before .before .before .before .before .before .before .before .before .before .before .if3 .left) (c .before .before .before .before .before .before .before .before .before .before .with-preflags2 .ensures))
 
 pre-question-requires : tie.Need-pre-question-requires
 pre-question-requires c κs = (c .before .before .before .before .before .before .before .before .before .pre .0, c .before .before .before .before .before .before .before .before .before .pre .1 .0)
@@ -79,7 +79,7 @@ same-length-11 : tie.Need-same-length-11
 same-length-11 c = search needs
 
 returns-4 : tie.Need-returns-4
-returns-4 c = plays-by (c .before .before .before .before .before .before .pre-question .ensures) (pre-cell-question _ (c .before .before .before .before .before .before .before .before .before .before .before .before .before .before .before .before .args .i) (c .before .before .before .before .before .before .before .before .before .before .before .before .before .before .before .before .args .p) (c .before .before .before .before .before .before .before .before .before .before .before .before .before .before .before .before .args .p) _ _ (c .before .before .before .before .before .before .before .before .before .before .before .if1 .left) (c .before .before .before .before .before .before .before .before .before .before .if2 .left))
+returns-4 c = leaves-by (c .before .before .before .before .before .before .pre-question .ensures) (pre-cell-question _ (c .before .before .before .before .before .before .before .before .before .before .before .before .before .before .before .before .args .i) (c .before .before .before .before .before .before .before .before .before .before .before .before .before .before .before .before .args .p) (c .before .before .before .before .before .before .before .before .before .before .before .before .before .before .before .before .args .p) _ _ (c .before .before .before .before .before .before .before .before .before .before .before .if1 .left) (c .before .before .before .before .before .before .before .before .before .before .if2 .left))
 
 pub pre-cell-spec : {M : Type 1} → statement M
 pre-cell-spec =

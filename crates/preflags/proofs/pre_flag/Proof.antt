@@ -1,6 +1,6 @@
 -- `ready::pre_flag` meets its contract.
 use borrow.Author.Needs.{needs}
-use Rattle.cells.proofs.Contracts.{plays-by}
+use Rattle.cells.proofs.Contracts.{leaves-by}
 use Rattle.preflags.proofs.Cases.{pre-flag-right}
 use Rattle.preflags.proofs.pre_flag.Statement.{statement}
 use Rattle.preflags.proofs.pre_flag.Tie as tie
@@ -27,7 +27,7 @@ same-length-3 : tie.Need-same-length-3
 same-length-3 c = search needs
 
 returns : tie.Need-returns
-returns c = plays-by (c .before .before .before .before .before .before .right-at .ensures) (pre-flag-right _ (c .before .before .before .before .before .before .before .before .before .before .before .before .before .before .before .before .args .x) (c .before .before .before .before .before .before .before .before .before .before .before .before .before .before .before .before .args .p) _ _ _ _ (c .before .before .before .before .before .before .before .before .before .before .before .with-preflags .ensures) (c .before .before .before .before .before .before .before .before .before .before .with-game .ensures))
+returns c = leaves-by (c .before .before .before .before .before .before .right-at .ensures) (pre-flag-right _ (c .before .before .before .before .before .before .before .before .before .before .before .before .before .before .before .before .args .x) (c .before .before .before .before .before .before .before .before .before .before .before .before .before .before .before .before .args .p) _ _ _ _ (c .before .before .before .before .before .before .before .before .before .before .before .with-preflags .ensures) (c .before .before .before .before .before .before .before .before .before .before .with-game .ensures))
 
 pub pre-flag-spec : {M : Type 1} → statement M
 pre-flag-spec =

@@ -20,7 +20,7 @@ same-length-3 : tie.Need-same-length-3
 same-length-3 c = search needs
 
 returns : tie.Need-returns
-returns c = record { outcome = pre-question-clears _ (c .before .before .before .before .before .before .before .before .before .before .before .before .before .before .before .before .before .before .before .args .i) (c .before .before .before .before .before .before .before .before .before .before .before .before .before .before .before .before .before .before .before .args .p) _ _ _ (c .before .before .before .before .before .before .before .before .before .before .before .before .right-click .result) _ _ _ (c .before .before .before .before .before .if1 .taken) (c .before .before .before .before .before .before .before .before .before .before .before .before .right-click .ensures .outcome) (c .before .before .clear .ensures _); same = c .before .before .before .before .before .before .before .before .before .before .before .before .right-click .ensures .same; opened = c .before .before .before .before .before .before .before .before .before .before .before .before .right-click .ensures .opened }
+returns c = record { outcome = pre-question-clears _ (c .before .before .before .before .before .before .before .before .before .before .before .before .before .before .before .before .before .before .before .args .i) (c .before .before .before .before .before .before .before .before .before .before .before .before .before .before .before .before .before .before .before .args .p) _ _ _ (c .before .before .before .before .before .before .before .before .before .before .before .before .right-click .result) _ _ _ (c .before .before .before .before .before .if1 .taken) (c .before .before .before .before .before .before .before .before .before .before .before .before .right-click .ensures .outcome) (c .before .before .clear .ensures _); same = c .before .before .before .before .before .before .before .before .before .before .before .before .right-click .ensures .same }
 
 same-length-4 : tie.Need-same-length-4
 same-length-4 c = search needs
@@ -32,7 +32,7 @@ same-length-6 : tie.Need-same-length-6
 same-length-6 c = search needs
 
 returns-2 : tie.Need-returns-2
-returns-2 c = record { outcome = pre-question-stays _ (c .before .before .before .before .before .before .before .before .before .before .before .before .before .before .args .i) (c .before .before .before .before .before .before .before .before .before .before .before .before .before .before .args .p) (c .before .before .before .before .before .before .before .before .before .before .before .before .before .before .args .p) _ _ (c .before .before .before .before .before .before .before .right-click .result) _ _ (c .if1 .left) (c .before .before .before .before .before .before .before .right-click .ensures .outcome); same = c .before .before .before .before .before .before .before .right-click .ensures .same; opened = c .before .before .before .before .before .before .before .right-click .ensures .opened }
+returns-2 c = record { outcome = pre-question-stays _ (c .before .before .before .before .before .before .before .before .before .before .before .before .before .before .args .i) (c .before .before .before .before .before .before .before .before .before .before .before .before .before .before .args .p) (c .before .before .before .before .before .before .before .before .before .before .before .before .before .before .args .p) _ _ (c .before .before .before .before .before .before .before .right-click .result) _ _ (c .if1 .left) (c .before .before .before .before .before .before .before .right-click .ensures .outcome); same = c .before .before .before .before .before .before .before .right-click .ensures .same }
 
 pub pre-question-spec : {M : Type 1} → statement M
 pre-question-spec =

@@ -1,7 +1,6 @@
 -- `preflags::pre_right` meets its contract.
-use mathlib.Core.Path.{refl}
 use borrow.Author.Needs.{needs}
-use Rattle.cells.proofs.Contracts.{plays-by, plays-here}
+use Rattle.cells.proofs.Contracts.{leaves-by, leaves-here}
 use Rattle.buttons.proofs.Plays.{pre-cell-needs}
 use Rattle.preflags.proofs.Cases.{pre-right-cell, pre-right-off}
 use Rattle.preflags.proofs.pre_right.Statement.{statement}
@@ -38,10 +37,10 @@ same-length-3 : tie.Need-same-length-3
 same-length-3 c = search needs
 
 returns : tie.Need-returns
-returns c = plays-by (c .before .before .before .before .before .before .pre-cell .ensures) (pre-right-cell _ (c .before .before .before .before .before .before .before .before .before .before .before .before .before .before .before .before .before .before .args .x) (c .before .before .before .before .before .before .before .before .before .before .before .before .before .before .before .before .before .before .args .p) _ _ _ _ _ _ (c .before .before .before .before .before .before .before .before .before .before .before .before .before .x .given .1) (c .before .before .before .before .before .before .before .before .before .before .before .cell .ensures) (c .before .before .before .before .before .before .before .before .before .before .moved .ensures))
+returns c = leaves-by (c .before .before .before .before .before .before .pre-cell .ensures) (pre-right-cell _ (c .before .before .before .before .before .before .before .before .before .before .before .before .before .before .before .before .before .before .args .x) (c .before .before .before .before .before .before .before .before .before .before .before .before .before .before .before .before .before .before .args .p) _ _ _ _ _ _ (c .before .before .before .before .before .before .before .before .before .before .before .before .before .x .given .1) (c .before .before .before .before .before .before .before .before .before .before .before .cell .ensures) (c .before .before .before .before .before .before .before .before .before .before .moved .ensures))
 
 returns-2 : tie.Need-returns-2
-returns-2 c = plays-here (pre-right-off _ (c .before .before .before .before .before .before .before .args .x) (c .before .before .before .before .before .before .before .args .p) _ _ _ _ (c .before .before .enum-told .given .1) (c .before .with-mouse .ensures) (c .add-right .ensures)) refl
+returns-2 c = leaves-here (pre-right-off _ (c .before .before .before .before .before .before .before .args .x) (c .before .before .before .before .before .before .before .args .p) _ _ _ _ (c .before .before .enum-told .given .1) (c .before .with-mouse .ensures) (c .add-right .ensures))
 
 pub pre-right-spec : {M : Type 1} → statement M
 pre-right-spec =

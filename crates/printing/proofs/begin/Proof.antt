@@ -1,6 +1,6 @@
 -- `printing::begin` meets its contract: the book's mine list is refused on no board of its size, and its desk is made fresh.
 use borrow.Author.Needs.{needs}
-use Rattle.printing.proofs.Beginning.{begun}
+use Rattle.printing.proofs.Beginning.{begun-mined, begun}
 use Rattle.printing.proofs.begin.Statement.{statement}
 use Rattle.printing.proofs.begin.Tie as tie
 
@@ -23,7 +23,7 @@ clear-requires : tie.Need-clear-requires
 clear-requires c κs = search needs
 
 fresh-desk-requires : tie.Need-fresh-desk-requires
-fresh-desk-requires c κs = search needs
+fresh-desk-requires c κs = let pre = c .before .before .before .before .before .before .before .before .before .before .before .before .before .before .before .before .before .pre in (begun-mined _ (c .before .before .before .before .before .before .before .before .before .before .before .before .before .before .before .before .before .args .b) (pre .0 .0) (pre .0 .1) _ (pre .1 .mine) (c .before .before .before .before .before .before .before .before .before .before .before .mines .ensures) (c .before .before .before .before .before .before .before .before .before .number-mines .ensures), (pre .1 .cell, pre .1 .byte))
 
 same-length : tie.Need-same-length
 same-length c = search needs
@@ -38,7 +38,7 @@ same-length-4 : tie.Need-same-length-4
 same-length-4 c = search needs
 
 returns : tie.Need-returns
-returns c = begun _ (c .before .before .before .before .before .before .before .before .before .before .before .before .before .before .before .before .before .before .before .before .before .args .b) (c .before .before .before .before .before .before .before .before .before .before .before .before .before .before .before .before .before .before .before .before .before .pre .0 .0) (c .before .before .before .before .before .before .before .before .before .before .before .before .before .before .before .before .before .before .before .before .before .pre .0 .1) (c .before .before .before .before .before .before .before .before .before .before .before .before .before .before .before .before .before .before .before .before .before .pre .1) (c .before .before .before .before .before .before .before .before .before .before .before .before .before .before .before .mines .ensures) (c .before .before .before .before .before .before .before .before .before .before .before .before .before .number-mines .ensures) (c .before .before .before .before .before .before .before .before .before .before .before .cell-count .ensures .0) (c .before .before .before .before .before .before .before .before .before .clear .ensures) (c .before .before .before .before .fresh-desk .ensures)
+returns c = let pre = c .before .before .before .before .before .before .before .before .before .before .before .before .before .before .before .before .before .before .before .before .before .before .pre in begun _ (c .before .before .before .before .before .before .before .before .before .before .before .before .before .before .before .before .before .before .before .before .before .before .args .b) (pre .0 .0) (pre .0 .1) _ (pre .1 .mine) (c .before .before .before .before .before .before .before .before .before .before .before .before .before .before .before .before .mines .ensures) (c .before .before .before .before .before .before .before .before .before .before .before .before .before .before .number-mines .ensures) (c .before .before .before .before .before .before .before .before .before .before .before .before .cell-count .ensures .0) (c .before .before .before .before .before .before .before .before .before .before .clear .ensures) (c .before .before .before .before .fresh-desk .ensures)
 
 pub begin-spec : {M : Type 1} → statement M
 begin-spec =

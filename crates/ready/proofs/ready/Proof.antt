@@ -1,6 +1,6 @@
 -- `events::ready` meets its contract.
 use borrow.Author.Needs.{needs}
-use Rattle.cells.proofs.Contracts.{plays-by, plays-here}
+use Rattle.cells.proofs.Contracts.{leaves-by, leaves-here}
 use Rattle.buttons.proofs.Plays.{inside-event}
 use Rattle.rules.specs.Step.{ready}
 use Rattle.ready.proofs.ready.Statement.{statement}
@@ -68,11 +68,11 @@ answered-requires-4 c κs = search needs
 
 returns : tie.Need-returns
 unfolding ready
-returns c = plays-here (simp (c .before .before .e .given .1) (c .ready-lc .ensures .0 _ _)) (c .ready-lc .ensures .1)
+returns c = leaves-here (simp (c .before .before .e .given .1) (c .ready-lc .ensures _ _))
 
 returns-2 : tie.Need-returns-2
 unfolding ready
-returns-2 c = plays-here (simp (c .before .enum-told .given .1, c .moves .ensures)) (rw (c .moves .ensures))
+returns-2 c = leaves-here (simp (c .before .enum-told .given .1, c .moves .ensures))
 
 same-length : tie.Need-same-length
 same-length c = search needs
@@ -85,27 +85,27 @@ same-length-3 c = search needs
 
 returns-3 : tie.Need-returns-3
 unfolding ready
-returns-3 c = plays-by (c .before .before .before .before .before .before .ready-rc .ensures) (simp (c .before .before .before .before .before .before .before .before .before .before .before .e2 .given .1))
+returns-3 c = leaves-by (c .before .before .before .before .before .before .ready-rc .ensures) (simp (c .before .before .before .before .before .before .before .before .before .before .before .e2 .given .1))
 
 returns-4 : tie.Need-returns-4
 unfolding ready
-returns-4 c = plays-here (simp (c .before .enum-told2 .given .1, c .moves2 .ensures)) (rw (c .moves2 .ensures))
+returns-4 c = leaves-here (simp (c .before .enum-told2 .given .1, c .moves2 .ensures))
 
 returns-5 : tie.Need-returns-5
 unfolding ready
-returns-5 c = plays-here (simp (c .before .enum-told3 .given .1, c .answered .ensures)) (rw (c .answered .ensures))
+returns-5 c = leaves-here (simp (c .before .enum-told3 .given .1, c .answered .ensures))
 
 returns-6 : tie.Need-returns-6
 unfolding ready
-returns-6 c = plays-here (simp (c .before .enum-told4 .given .1, c .answered2 .ensures)) (rw (c .answered2 .ensures))
+returns-6 c = leaves-here (simp (c .before .enum-told4 .given .1, c .answered2 .ensures))
 
 returns-7 : tie.Need-returns-7
 unfolding ready
-returns-7 c = plays-here (simp (c .before .enum-told5 .given .1, c .answered3 .ensures)) (rw (c .answered3 .ensures))
+returns-7 c = leaves-here (simp (c .before .enum-told5 .given .1, c .answered3 .ensures))
 
 returns-8 : tie.Need-returns-8
 unfolding ready
-returns-8 c = plays-here (simp (c .before .enum-told6 .given .1, c .moves3 .ensures)) (rw (c .moves3 .ensures))
+returns-8 c = leaves-here (simp (c .before .enum-told6 .given .1, c .moves3 .ensures))
 
 same-length-4 : tie.Need-same-length-4
 same-length-4 c = search needs
@@ -118,11 +118,11 @@ same-length-6 c = search needs
 
 returns-9 : tie.Need-returns-9
 unfolding ready
-returns-9 c = plays-by (c .before .before .before .before .before .before .pre-flag .ensures) (simp (c .before .before .before .before .before .before .before .before .before .before .before .e3 .given .1))
+returns-9 c = leaves-by (c .before .before .before .before .before .before .pre-flag .ensures) (simp (c .before .before .before .before .before .before .before .before .before .before .before .e3 .given .1))
 
 returns-10 : tie.Need-returns-10
 unfolding ready
-returns-10 c = plays-here (simp (c .before .enum-told7 .given .1, c .answered4 .ensures)) (rw (c .answered4 .ensures))
+returns-10 c = leaves-here (simp (c .before .enum-told7 .given .1, c .answered4 .ensures))
 
 pub ready-spec : {M : Type 1} → statement M
 ready-spec =

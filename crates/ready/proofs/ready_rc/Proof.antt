@@ -1,7 +1,7 @@
 -- `ready::ready_rc` meets its contract.
-use mathlib.Core.Path.{refl, _∙_, sym}
+use mathlib.Core.Path.{_∙_, sym}
 use borrow.Author.Needs.{needs}
-use Rattle.cells.proofs.Contracts.{plays-by, plays-here}
+use Rattle.cells.proofs.Contracts.{leaves-by, leaves-here}
 use Rattle.buttons.proofs.Plays.{alike-set, alike-at}
 use Rattle.ready.proofs.Cases.{ready-rc-starts, ready-rc-moved}
 use Rattle.ready.proofs.ready_rc.Statement.{statement}
@@ -32,10 +32,10 @@ same-length-3 : tie.Need-same-length-3
 same-length-3 c = search needs
 
 returns : tie.Need-returns
-returns c = plays-by (c .before .before .before .before .before .before .right-at .ensures) (ready-rc-starts _ (c .before .before .before .before .before .before .before .before .before .before .before .before .before .before .before .before .before .before .args .x) (c .before .before .before .before .before .before .before .before .before .before .before .before .before .before .before .before .before .before .args .p) _ _ _ _ _ (sym (c .before .before .before .before .before .before .before .before .before .before .before .before .before .starts .ensures) ∙ c .before .before .before .before .before .before .before .before .before .before .before .before .if1 .taken) (c .before .before .before .before .before .before .before .before .before .before .before .before .before .before .moved .ensures) (c .before .before .before .before .before .before .before .before .before .before .before .with-preflags .ensures) (c .before .before .before .before .before .before .before .before .before .before .with-game .ensures))
+returns c = leaves-by (c .before .before .before .before .before .before .right-at .ensures) (ready-rc-starts _ (c .before .before .before .before .before .before .before .before .before .before .before .before .before .before .before .before .before .before .args .x) (c .before .before .before .before .before .before .before .before .before .before .before .before .before .before .before .before .before .before .args .p) _ _ _ _ _ (sym (c .before .before .before .before .before .before .before .before .before .before .before .before .before .starts .ensures) ∙ c .before .before .before .before .before .before .before .before .before .before .before .before .if1 .taken) (c .before .before .before .before .before .before .before .before .before .before .before .before .before .before .moved .ensures) (c .before .before .before .before .before .before .before .before .before .before .before .with-preflags .ensures) (c .before .before .before .before .before .before .before .before .before .before .with-game .ensures))
 
 returns-2 : tie.Need-returns-2
-returns-2 c = plays-here (ready-rc-moved _ (c .before .before .before .before .before .before .args .x) (c .before .before .before .before .before .before .args .p) _ _ _ (sym (c .before .starts .ensures) ∙ c .if1 .left) (c .before .before .moved .ensures)) refl
+returns-2 c = leaves-here (ready-rc-moved _ (c .before .before .before .before .before .before .args .x) (c .before .before .before .before .before .before .args .p) _ _ _ (sym (c .before .starts .ensures) ∙ c .if1 .left) (c .before .before .moved .ensures))
 
 pub ready-rc-spec : {M : Type 1} → statement M
 ready-rc-spec =
