@@ -1,5 +1,5 @@
-// The P and Run positions of document 01, and of document 02 the league's rules and the split step, played on the Rust; each holds what was seen
-// beside what the paper tells.
+// The P and Run positions of document 01, and of document 02 the league's rules, the split step and the questions that mislead a pass, played on the
+// Rust; each holds what was seen beside what the paper tells.
 
 use crate::game::*;
 use crate::position::{GAME_STATES, MOUSE_STATES};
@@ -65,6 +65,8 @@ fn positions() -> Vec<Told> {
         resolve_unknown_code(),
         plain_step_of_toggles(),
         pair_is_the_rust(),
+        question_misleads(),
+        question_loses(),
     ]
 }
 
@@ -408,6 +410,29 @@ fn pair_is_the_rust() -> Told {
         differ.join("; "),
         "",
     )
+}
+
+/// A row in mode 13 with question marks on, the first cell a mine with a question on it, these cells opened, then a chord by hand: the last answer, the
+/// game state and the shown cells before the chord and after it.
+fn questioned(columns: usize, mines: &[(usize, usize)], opened: &[usize], chord: usize) -> String {
+    let settings = Settings { rows: 1, columns, mode: 13, question: true, rules: 1 };
+    let mut game = Game::setup(settings, mines).expect("a lawful setup");
+    game.flag(0, 0);
+    game.flag(0, 0);
+    opened.iter().for_each(|&column| game.open(0, column));
+    let before = game.rows();
+    let answer = game.step(MR, 0, chord);
+    format!("{before}, {answer} {}, {}", game.state_number(), game.rows())
+}
+
+fn question_misleads() -> Told {
+    let seen = questioned(3, &[(0, 0)], &[1], 1);
+    position("Req 09: 1x3, mine (0,0), mode 13; question (0,0), open (0,1), mr (0,1)", seen, "17 1 10, 0 1, 17 1 11")
+}
+
+fn question_loses() -> Told {
+    let seen = questioned(5, &[(0, 0), (0, 4)], &[1, 3], 0);
+    position("Req 09: 1x5, mines (0,0) and (0,4), mode 13; question (0,0), open (0,1) and (0,3), mr (0,0)", seen, "17 1 10 1 10, 0 3, 17 1 14 1 15")
 }
 
 fn new(rows: usize, columns: usize, mode: u16, mines: &[(usize, usize)]) -> Game {

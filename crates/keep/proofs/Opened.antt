@@ -93,7 +93,7 @@ lawful-later q true f x h = lawful-lost q f x h
 lawful-later q false f x h = h
 
 -- a number may be shown open
-number-lawful : (q t : Bool) (f : ℕ) → f ≤ 8 → cellLawful q t f f ≡ true
+pub number-lawful : (q t : Bool) (f : ℕ) → f ≤ 8 → cellLawful q t f f ≡ true
 unfolding cellLawful
 number-lawful q t f h = rw (le-leb f 8 h) (eq-eqb f f refl)
 

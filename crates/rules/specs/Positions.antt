@@ -1,4 +1,4 @@
--- The positions that document 01 marks P, and ten beside them, as one table and one theorem that the checker computes over the definitions; after it
+-- The positions that document 01 marks P, and twelve beside them, as one table and one theorem that the checker computes over the definitions; after it
 -- the same for the number of safe cells still closed, for positions that are refused, and for events that are resolved or played as they are.
 -- Open is lc, lr; flag rc, rr. Each row is a game from its fresh start: settings, mine list, events, all that stands at its end, and what each event opened.
 use mathlib.Core.Path.{_≡_, refl}
@@ -188,6 +188,12 @@ table =
     (33 ∷ 4 ∷ 2 ∷ 0 ∷ 2 ∷ 0 ∷ 0 ∷ 0 ∷ 0 ∷ 1 ∷ 0 ∷ 0 ∷ 1 ∷ 1 ∷ 10 ∷ 11 ∷ 10 ∷ []) [] (0 ∷ 0 ∷ 0 ∷ 0 ∷ [])
     ∷ row 24 (byRules 2 (size 1 3 0 false)) (0 ∷ 0 ∷ []) (flag′ 0 1 (event 2 1 3 (event 10 0 0 [])))
     (0 ∷ 4 ∷ 0 ∷ 0 ∷ 2 ∷ 0 ∷ 0 ∷ 0 ∷ 0 ∷ 1 ∷ 0 ∷ 0 ∷ 1 ∷ 1 ∷ 10 ∷ 11 ∷ 10 ∷ []) [] (0 ∷ 0 ∷ 0 ∷ 0 ∷ [])
+    -- a question beside a number misleads the flag pass; 1×3, mine (0,0), mode 13, questions on: question on (0,0), open (0,1), mr (0,1): 17 1 11, and (0,2) is safe
+    ∷ row 25 (size 1 3 13 true) (0 ∷ 0 ∷ []) (flag′ 0 0 (flag′ 0 0 (open′ 0 1 (event 6 0 1 []))))
+    (0 ∷ 1 ∷ 0 ∷ 1 ∷ 2 ∷ 1 ∷ 1 ∷ 1 ∷ 0 ∷ 1 ∷ 0 ∷ 0 ∷ 1 ∷ 1 ∷ 17 ∷ 1 ∷ 11 ∷ []) (pos 0 ∷ []) (0 ∷ 0 ∷ 0 ∷ 0 ∷ 0 ∷ 1 ∷ 0 ∷ [])
+    -- and mode 13 can lose by it; 1×5, mines (0,0) and (0,4), questions on: question on (0,0), open (0,1) and (0,3), mr (0,0): answer 0, Loss, 17 1 14 1 15
+    ∷ row 26 (size 1 5 13 true) (0 ∷ 0 ∷ 0 ∷ 4 ∷ []) (flag′ 0 0 (flag′ 0 0 (open′ 0 1 (open′ 0 3 (event 6 0 0 [])))))
+    (0 ∷ 3 ∷ 0 ∷ 2 ∷ 2 ∷ 1 ∷ 2 ∷ 1 ∷ 0 ∷ 1 ∷ 0 ∷ 0 ∷ 1 ∷ 1 ∷ 17 ∷ 1 ∷ 14 ∷ 1 ∷ 15 ∷ []) (pos 1 ∷ pos 1 ∷ []) (0 ∷ 0 ∷ 0 ∷ 0 ∷ 0 ∷ 1 ∷ 0 ∷ 1 ∷ 0 ∷ [])
     ∷ []
 
 pub positions : wrongRows table ≡ []

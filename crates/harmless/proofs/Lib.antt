@@ -1,0 +1,10 @@
+pub mod Spared
+pub mod Numbers
+pub mod Flags
+pub mod Chords
+pub mod Harmless
+pub mod Modes
+pub mod Events
+pub mod Clicks
+pub mod Hands
+pub mod Needed

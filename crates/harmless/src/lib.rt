@@ -1,0 +1,1 @@
+// Laws only: the automatic passes never lose a right game by themselves (specs/Harmless.antt).
