@@ -18,8 +18,13 @@ pub struct Fault {
 }
 
 pub fn read(bytes: &[u8]) -> Result<Book<'_>, Fault> {
+    read_modes(bytes, mode_allowed)
+}
+
+/// A book whose mode passes a test of the caller's.
+pub fn read_modes(bytes: &[u8], allowed: fn(u16) -> bool) -> Result<Book<'_>, Fault> {
     let mut reader = Reader { bytes, at: 0 };
-    let settings = reader.settings()?;
+    let settings = reader.settings(allowed)?;
     let mines = reader.mines(&settings)?;
     let events = reader.events()?;
     reader.end()?;
@@ -49,7 +54,7 @@ impl<'a> Reader<'a> {
         Ok(usize::from(part[0]) + 256 * usize::from(part[1]))
     }
 
-    fn settings(&mut self) -> Result<Settings, Fault> {
+    fn settings(&mut self, allowed: fn(u16) -> bool) -> Result<Settings, Fault> {
         let count = self.take(1)?[0];
         if count != 4 && count != 5 {
             return fault(41, 0);
@@ -63,7 +68,7 @@ impl<'a> Reader<'a> {
         if !size_allowed(rows, columns) {
             return fault(20, 1);
         }
-        if !mode_allowed(mode) {
+        if !allowed(mode) {
             return fault(25, 3);
         }
         if !rules_allowed(rules) {

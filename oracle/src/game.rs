@@ -72,6 +72,15 @@ impl Game {
         self.play(if is_toggle(code) { UNKNOWN } else { code }, row, column)
     }
 
+    /// The step of Req 10's no-flag class: 34 for a forbidden event, after 31 and before 32.
+    pub fn step_noflag(&mut self, code: u8, row: usize, column: usize) -> u16 {
+        match self.refusal(row, column) {
+            Some(number) => number,
+            None if is_forbidden(code) => 34,
+            None => self.step(code, row, column),
+        }
+    }
+
     /// The resolving call of Req 07: the plain code, or 30 or 31. It counts no event.
     pub fn resolve(&mut self, code: u8, row: usize, column: usize) -> Result<u8, u16> {
         if let Some(number) = self.refusal(row, column) {
@@ -172,6 +181,11 @@ impl Game {
     pub fn ended(&self) -> bool {
         matches!(self.state(), GameBoardState::Win | GameBoardState::Loss)
     }
+}
+
+/// The codes of the right button, which Req 10 forbids.
+pub fn is_forbidden(code: u8) -> bool {
+    matches!(code, RC | RR | CC | PF | R)
 }
 
 fn is_toggle(code: u8) -> bool {

@@ -8,6 +8,7 @@ mod drawn;
 mod game;
 mod lawful;
 mod layout;
+mod noflag;
 mod packed;
 mod packed_steps;
 mod picture;
@@ -31,6 +32,8 @@ const USAGE: &str = "usage:
   oracle positions                   the P and Run positions of document 01, and those of the requests
   oracle books SEED COUNT [KIND]     packed books: small, large, deep, damaged or mixed
   oracle answers [--sum]             packed books on standard input: their printouts, or their sums
+  oracle noflag-books SEED COUNT     packed books for the no-flag class
+  oracle noflag-answers              packed books on standard input: what the class prints of each
   oracle pick NUMBER                 packed books on standard input: the one of this number, from 1
   oracle steps SEED COUNT [START]    packed single steps from positions: lawful or spoiled
   oracle outcomes [--whole]          packed steps on standard input: a line of the outcome of each, or of the whole
@@ -62,6 +65,8 @@ fn run(words: &[&str]) -> Outcome {
         ["books", seed, count, kind] => write_books(number(seed)?, number(count)?, kind_named(kind)?),
         ["answers"] => answers(printout),
         ["answers", "--sum"] => answers(sum),
+        ["noflag-books", seed, count] => write_noflag_books(number(seed)?, number(count)?),
+        ["noflag-answers"] => answers(noflag::printout),
         ["pick", book] => pick(number(book)?),
         ["steps", seed, count] => write_steps(number(seed)?, number(count)?, Start::Lawful),
         ["steps", seed, count, start] => write_steps(number(seed)?, number(count)?, start_named(start)?),
@@ -92,6 +97,14 @@ fn write_books(seed: u64, count: u64, kind: Kind) -> Outcome {
     let mut packed = Vec::new();
     for number in 0..count {
         packed::pack(&mut packed, &books::book(seed, number, kind));
+    }
+    write(&packed)
+}
+
+fn write_noflag_books(seed: u64, count: u64) -> Outcome {
+    let mut packed = Vec::new();
+    for number in 0..count {
+        packed::pack(&mut packed, &noflag::book(seed, number));
     }
     write(&packed)
 }

@@ -135,7 +135,7 @@ module _ (B : List ℤ) (d : Desk) (work : List ℕ) where
 -- ---- whatever the number, all is given back --------------------------------------------------------------------------------------------
 
 -- an event that is refused leaves the desk as it was
-event-back : (B : List ℤ) (code r c : ℕ) (d : Desk) → 20 ≤ stepOn B code r c d .answer → stepOn B code r c d .desk ≡ d
+pub event-back : (B : List ℤ) (code r c : ℕ) (d : Desk) → 20 ≤ stepOn B code r c d .answer → stepOn B code r c d .desk ≡ d
 unfolding stepOn stepBy stepAt
 event-back B code r c d = by (pointerOf (d .position .settings) r c)
   where
@@ -148,7 +148,7 @@ event-back B code r c d = by (pointerOf (d .position .settings) r c)
     by Bad h = refl
 
 -- and its number is 30 to 33, which has no place
-event-far : (B : List ℤ) (code r c : ℕ) (d : Desk) → 20 ≤ stepOn B code r c d .answer → 30 ≤ stepOn B code r c d .answer
+pub event-far : (B : List ℤ) (code r c : ℕ) (d : Desk) → 20 ≤ stepOn B code r c d .answer → 30 ≤ stepOn B code r c d .answer
 unfolding stepOn stepBy stepAt refusalAt
 event-far B code r c d = by (pointerOf (d .position .settings) r c)
   where
@@ -163,31 +163,37 @@ event-far B code r c d = by (pointerOf (d .position .settings) r c)
     by (At x) h = at x (eqb (refusalAt code x d) 0) h
     by Bad h = omega arith
 
+-- a number that has no place
 far : (B : List ℤ) (n : ℕ) (d : Desk) (work : List ℕ) → 30 ≤ n → refused n d work ≡ refusedAt B n d work
 far B n d work h =
     ap (λ (x : Place). outcome (record { number = n; place = x; position = d .position; value = 0 }) (d .shown) (d .bits) work)
     (sym (place-none (d .position .settings .rows) (d .position .settings .columns) B n (λ (e : n ≡ 22). omega arith) (λ (e : n ≡ 23). omega arith)))
 
-step-whole : (B : List ℤ) (code r c : ℕ) (d : Desk) (work : List ℕ) → 20 ≤ stepOf B code r c d work .answer .number
-    → stepOf B code r c d work ≡ refusedAt B (stepOf B code r c d work .answer .number) d work
-unfolding stepOf
-step-whole B code r c d work = at (eqb (lentRefusal B d work) 0)
-  where
-    o : Play
-    o = plainOn B code r c d
+-- a call that is refused with n, or plays o
+abbrev pub called : List ℤ → ℕ → Desk → List ℕ → Play → Outcome
+called B n d work o = pick (eqb n 0) (played (d .shown) o work) (refusedAt B n d work)
 
+pub called-whole : (B : List ℤ) (n : ℕ) (d : Desk) (work : List ℕ) (o : Play) → (20 ≤ o .answer → o .desk ≡ d) → (20 ≤ o .answer → 30 ≤ o .answer)
+    → 20 ≤ called B n d work o .answer .number → called B n d work o ≡ refusedAt B (called B n d work o .answer .number) d work
+called-whole B n d work o back past = at (eqb n 0)
+  where
     out : Bool → Outcome
     out b = pick b (refused (o .answer) (o .desk) work) (accepted (o .answer) (openedIn (d .shown) (o .desk .shown)) (o .desk) work)
 
     by : (b : Bool) → leb 20 (o .answer) ≡ b → 20 ≤ out b .answer .number → out b ≡ refusedAt B (out b .answer .number) d work
-    by true e h =
-        ap (λ (e : Desk). refused (o .answer) e work) (event-back B (plainCode code) r c d (leb-true _ _ e)) ∙ far B (o .answer) d work (event-far B (plainCode code) r c d (leb-true _ _ e))
+    by true e h = ap (λ (x : Desk). refused (o .answer) x work) (back (leb-true _ _ e)) ∙ far B (o .answer) d work (past (leb-true _ _ e))
     by false e h = absurd (false≢true (sym e ∙ le-leb _ _ h))
 
-    at : (b : Bool) → 20 ≤ pick b (played (d .shown) o work) (refusedAt B (lentRefusal B d work) d work) .answer .number
-        → pick b (played (d .shown) o work) (refusedAt B (lentRefusal B d work) d work) ≡ refusedAt B (pick b (played (d .shown) o work) (refusedAt B (lentRefusal B d work) d work) .answer .number) d work
+    at : (b : Bool) → 20 ≤ pick b (played (d .shown) o work) (refusedAt B n d work) .answer .number
+        → pick b (played (d .shown) o work) (refusedAt B n d work) ≡ refusedAt B (pick b (played (d .shown) o work) (refusedAt B n d work) .answer .number) d work
     at true h = by (leb 20 (o .answer)) refl h
     at false h = refl
+
+step-whole : (B : List ℤ) (code r c : ℕ) (d : Desk) (work : List ℕ) → 20 ≤ stepOf B code r c d work .answer .number
+    → stepOf B code r c d work ≡ refusedAt B (stepOf B code r c d work .answer .number) d work
+unfolding stepOf
+step-whole B code r c d work =
+    called-whole B (lentRefusal B d work) d work (plainOn B code r c d) (event-back B (plainCode code) r c d) (event-far B (plainCode code) r c d)
 
 -- a step answers 0 to 4, or it is refused: 20 to 264, 30 to 33
 pub step-gives-back : (p : Position) (code row column : ℕ) (B : List ℤ) (shown bits work : List ℕ) (r : Answer) (shown′ bits′ work′ : List ℕ)

@@ -183,7 +183,7 @@ module _ (B : List ℤ) (code : ℕ) (x : Pointer) (d : Desk) where
       go (no q) = ap (λ (t : Bool). on d (withMiddle (d .position) t)) (flips-not code (d .position .middle) q)
       go (yes q) = absurd (h (ap (λ (k : ℕ). refusalAt k x d) q ∙ middle-accepted x d room))
 
-  pair-at : ltb (d .position .events) 65535 ≡ true → stepAt B (plainCode (plainAt code d)) x (flippedAt code d) ≡ stepAt B code x d
+  pub pair-at : ltb (d .position .events) 65535 ≡ true → stepAt B (plainCode (plainAt code d)) x (flippedAt code d) ≡ stepAt B code x d
   unfolding stepAt
   pair-at room =
       ap (λ (k : ℕ). stepAt B k x (flippedAt code d)) (plain-same (plainAt code d) (plain-at code d))
@@ -194,7 +194,7 @@ module _ (B : List ℤ) (code : ℕ) (x : Pointer) (d : Desk) where
       go true q = refl
       go false q = ap (λ (y : Desk). done (refusalAt code x d) y) (leaves-same room (λ z. false≢true (sym q ∙ eq-eqb (refusalAt code x d) 0 z)))
 
-  full-at : ltb (d .position .events) 65535 ≡ false → stepAt B code x d ≡ done 31 d
+  pub full-at : ltb (d .position .events) 65535 ≡ false → stepAt B code x d ≡ done 31 d
   unfolding stepAt refusalAt
   full-at h = simp h
 

@@ -30,7 +30,7 @@ module _ (B : List ℤ) (f : FlatPosition) (m : means f ≡ true) where
   answer-back : (a : Answer) → a ≡ refuses B (positionIn f) (a .number) → flatAnswer a ≡ refusesFlat B f (a .number)
   answer-back a e = ap flatAnswer e ∙ refuses-back (a .number)
 
-  outcome-back : (o : Outcome) (n : ℕ) (shown bits work : List ℕ) → o ≡ refusedAt B n (desk (positionIn f) shown bits) work
+  pub outcome-back : (o : Outcome) (n : ℕ) (shown bits work : List ℕ) → o ≡ refusedAt B n (desk (positionIn f) shown bits) work
       → flatOutcome o ≡ leaves (refusesFlat B f n) (shown ∷ bits ∷ work ∷ [])
   outcome-back o n shown bits work e = ap flatOutcome e ∙ ap (λ (r : FlatAnswer). leaves r (shown ∷ bits ∷ work ∷ [])) (refuses-back n)
 

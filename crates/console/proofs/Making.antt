@@ -27,7 +27,7 @@ use Rattle.console.specs.Promises.{Leaves, leaves, refusesFlat, flatSetU
 
 -- ---- a byte that means nothing ---------------------------------------------------------------------------------------------------------
 
-unclear-some : (n k : ℕ) → k ≡ unclear n → k ≡ 0 → ⊥
+pub unclear-some : (n k : ℕ) → k ≡ unclear n → k ≡ 0 → ⊥
 unclear-some n k e z = true≢false (sym (eq-eqb _ _ (sym e ∙ z)) ∙ go (eqb n 0) refl)
   where
     go : (b : Bool) → eqb n 0 ≡ b → eqb (pick b 264 n) 0 ≡ false
@@ -55,7 +55,7 @@ module _ (B : List ℤ) (f : FlatPosition) (shown bits : List ℕ) (p : Position
     unfolding positionCheck
     check-as = refused-as (λ s. boardsFit s B shown bits)
 
-    lent-as : (work : List ℕ) → lentRefusal B made work ≡ unclear (lentRefusal B read work)
+    pub lent-as : (work : List ℕ) → lentRefusal B made work ≡ unclear (lentRefusal B read work)
     unfolding lentRefusal
     lent-as work = refused-as (λ s. boardsFit s B shown bits && workFits s work)
 
@@ -92,7 +92,7 @@ module _ (B : List ℤ) (f : FlatPosition) (shown bits : List ℕ) (p : Position
         go false m = refused-back m n k (number m) a (refused m)
 
     -- the same with what is lent: ls before, ls′ after, and ms what the definition leaves
-    left : (x : Answer) (n k : ℕ) (ls ls′ ms : List (List ℕ)) → (means f ≡ true → leaves a ls′ ≡ leaves x ms) → (means f ≡ false → k ≡ unclear n)
+    pub left : (x : Answer) (n k : ℕ) (ls ls′ ms : List (List ℕ)) → (means f ≡ true → leaves a ls′ ≡ leaves x ms) → (means f ≡ false → k ≡ unclear n)
         → (means f ≡ false → leaves a ls′ ≡ leaves (refuses B p k) ls)
         → leaves r ls′ ≡ pick (means f) (leaves (flatAnswer x) ms) (leaves (refusesFlat B f (unclear n)) ls)
     left x n k ls ls′ ms clear number refused = ap (λ (q : FlatAnswer). leaves q ls′) er ∙ go (means f) refl

@@ -9,7 +9,7 @@ use Rattle.rules.specs.declared.Book.{Book}
 use Rattle.rules.specs.declared.Position.{Position}
 use Rattle.rules.specs.declared.Settings.{Settings}
 use Rattle.rules.specs.Lent.{workRoom, workAfter}
-use Rattle.rules.specs.Clicks.{Desk, desk, done}
+use Rattle.rules.specs.Clicks.{Desk, Play, desk, done}
 use Rattle.rules.specs.Calls.{plays, lastPlay, cellsIn}
 use Rattle.rules.specs.Book.{bookOf, minesOf, eventsOf, partOf}
 use Rattle.rules.specs.Printout.{gameLine, eventLines, endLines, bookBoard, bookDesk, bookEnd, printoutBy, printoutOf}
@@ -76,9 +76,12 @@ module _ (s : List ℕ) (b : Book) (e : b ≡ bookOf s) (z : b .number ≡ 0) {p
         record { whole = rw events-are (writable .whole); few = f; fits = omega arith }
 
     module _ {r : Told} {shown′ bits′ work′ out₂ : List ℕ} (y : EventsPrinted B events p shown bits work first out₁ r shown′ bits′ work′ out₂) where
+      left : desk (r .position) shown′ bits′ ≡ flowOn B events (desk p shown bits) .desk
+      left = ap (λ (o : Play). o .desk) (y .outcome)
+
       follows : Follows B (desk p shown bits) (desk (r .position) shown′ bits′)
       follows =
-          subst (λ (d : Desk). Follows B (desk p shown bits) d) (sym (y .outcome))
+          subst (λ (d : Desk). Follows B (desk p shown bits) d) (sym left)
           (plays-follow B events (desk p shown bits) (done 0 (desk p shown bits)) (record { lawful = game-lawful; settings = refl; told = λ t. t }))
 
       pub game-ends : Mined B (r .position .settings .rows) (r .position .settings .columns)
@@ -105,7 +108,7 @@ module _ (s : List ℕ) (b : Book) (e : b ≡ bookOf s) (z : b .number ≡ 0) {p
       unfolding printoutOf
       whole-put h =
           put-as
-          (ap (λ (d : Desk). gameLine (b .settings) ++ (eventLines 1 (plays B events (desk p shown bits)) ++ endLines B d)) (y .outcome)
+          (ap (λ (d : Desk). gameLine (b .settings) ++ (eventLines 1 (plays B events (desk p shown bits)) ++ endLines B d)) left
           ∙ ap (λ (x : List ℤ). gameText (b .settings) x events (desk p shown bits)) (g .board)
           ∙ ap₂ (λ (x : List ℕ) (d : Desk). gameText (b .settings) (bookBoard s b) x d) events-are (g .fresh)
           ∙ sym (printout-played s b z) ∙ ap (printoutBy s) e)
@@ -128,7 +131,7 @@ module _ (s : List ℕ) (b : Book) (e : b ≡ bookOf s) (z : b .number ≡ 0) {p
 
       end-is : desk (r .position) shown′ bits′ ≡ bookEnd s b
       end-is =
-          y .outcome ∙ ap (λ (x : List ℤ). flowOn x events (desk p shown bits) .desk) (g .board)
+          left ∙ ap (λ (x : List ℤ). flowOn x events (desk p shown bits) .desk) (g .board)
           ∙ ap₂ (λ (x : List ℕ) (d : Desk). flowOn (bookBoard s b) x d .desk) events-are (g .fresh)
 
       work-cleared : {work″ : List ℕ} → work″ ≡ work′ → work″ ≡ workAfter (cellsIn (b .settings)) work₀

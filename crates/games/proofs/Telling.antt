@@ -12,7 +12,7 @@ use lib.IntN.{ℤ}
 use Rattle.rules.specs.declared.Position.{Position}
 use Rattle.rules.specs.declared.Played.{Played}
 use Rattle.rules.specs.Words.{pick}
-use Rattle.rules.specs.Clicks.{Desk, Play, desk}
+use Rattle.rules.specs.Clicks.{Desk, desk}
 use Rattle.rules.specs.Calls.{plays}
 use Rattle.rules.specs.Printout.{eventLine, eventLines}
 use Rattle.keep.specs.Kept.{LawfulAt}
@@ -103,11 +103,11 @@ module _ {B : List ℤ} {events : List ℕ} {at k₀ : ℕ} {o₀ : Played} {sho
 module _ (p : Position) {B : List ℤ} {events : List ℕ} {at : ℕ} {shown₀ bits₀ work₀ out₀ : List ℕ} {k number place : ℕ} {o : Played} {shown bits work out : List ℕ}
     (fit : EventsFit events at out₀) (t : Telling B events at 0 (unplayed p) shown₀ bits₀ work₀ out₀ k number place o shown bits work out) where
   -- every event was accepted
-  pub telling-end : length events ≤ k → EventsPrinted B events p shown₀ bits₀ work₀ at out₀ (record { at = place; position = o .position }) shown bits work out
+  pub telling-end : length events ≤ k → EventsPrinted B events p shown₀ bits₀ work₀ at out₀ (record { at = place; answer = o .answer; position = o .position }) shown bits work out
   telling-end h =
       let m = t .flowing .place in
       record {
-        outcome = ap (λ (x : Play). x .desk) (flow-end B events 0 (unplayed p) shown₀ bits₀ work₀ k o shown bits work (t .flowing) h);
+        outcome = flow-end B events 0 (unplayed p) shown₀ bits₀ work₀ k o shown bits work (t .flowing) h;
         put = leads-done (t .leads) (lines-done B events k number (desk (o .position) shown bits) (omega arith));
         short = let a = t .short in omega arith;
         same = t .flowing .same;
@@ -116,11 +116,11 @@ module _ (p : Position) {B : List ℤ} {events : List ℕ} {at : ℕ} {shown₀ 
   -- the last one was refused
   pub telling-refused : {o′ : Played} {shown′ bits′ work′ out′ : List ℕ} {place′ : ℕ} → k < length events
       → Plays (eventAt B events k) (o .position) shown bits work o′ shown′ bits′ work′ → PutWithin 20 (eventLine number (held o′ shown′ bits′)) place out out′ place′
-      → 20 ≤ o′ .answer → EventsPrinted B events p shown₀ bits₀ work₀ at out₀ (record { at = place′; position = o′ .position }) shown′ bits′ work′ out′
+      → 20 ≤ o′ .answer → EventsPrinted B events p shown₀ bits₀ work₀ at out₀ (record { at = place′; answer = o′ .answer; position = o′ .position }) shown′ bits′ work′ out′
   telling-refused {o′} {shown′} {bits′} {work′} {out′} {place′} h y w a =
       let m = three-left fit t h y w in
       record {
-        outcome = ap (λ (x : Play). x .desk) (flow-refused B events k o o′ shown bits work shown′ bits′ work′ m y 0 (unplayed p) shown₀ bits₀ work₀ (t .flowing) a);
+        outcome = flow-refused B events k o o′ shown bits work shown′ bits′ work′ m y 0 (unplayed p) shown₀ bits₀ work₀ (t .flowing) a;
         put = leads-done (leads-turn (eventLine number (held o′ shown′ bits′)) [] (t .leads) (lines-refused fit t h y w a) (w .put)) refl;
         short = let f = further fit t h y w in omega arith;
         same = y .same ∙ t .flowing .same;

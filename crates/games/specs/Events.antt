@@ -7,7 +7,7 @@ use lib.IntN.{ℤ}
 use Rattle.rules.specs.declared.Book.{Book}
 use Rattle.rules.specs.declared.Position.{Position}
 use Rattle.rules.specs.Lent.{workAfter}
-use Rattle.rules.specs.Clicks.{desk}
+use Rattle.rules.specs.Clicks.{desk, done}
 use Rattle.rules.specs.Calls.{plays, cellsIn}
 use Rattle.rules.specs.Printout.{eventLines, bookBoard, bookEnd, printoutOf}
 use Rattle.flows.specs.Runs.{flowOn}
@@ -22,7 +22,7 @@ pub record EventsFit (events : List ℕ) (at : ℕ) (out : List ℕ) : Type 0 wh
 
 -- the events were played, and a line for each written; the work came back as it was lent
 pub record EventsPrinted (B : List ℤ) (events : List ℕ) (p : Position) (shown bits work : List ℕ) (at : ℕ) (out : List ℕ) (r : Told) (shown′ bits′ work′ out′ : List ℕ) : Type 0 where
-  pub outcome : desk (r .position) shown′ bits′ ≡ flowOn B events (desk p shown bits) .desk
+  pub outcome : done (r .answer) (desk (r .position) shown′ bits′) ≡ flowOn B events (desk p shown bits)
   pub put : Put (eventLines 1 (plays B events (desk p shown bits))) at out out′ (r .at)
   pub short : 3 * r .at ≤ 3 * at + 20 * length events
   pub same : work′ ≡ work

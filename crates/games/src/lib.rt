@@ -13,14 +13,15 @@ use rules::Book;
 use rules::Played;
 use rules::Position;
 
-// Where the text has come to, and the position that the last event left.
+// Where the text has come to, what the last event answered, 0 where there is none, and the position that it left.
 pub struct Told {
     pub at: usize,
+    pub answer: u16,
     pub position: Position,
 }
 
 // A row of whole events, a line for each, up to the first refused one's line.
-fn play_events(
+pub fn play_events(
     p: Position,
     events: &[u8],
     mines: &[i8],
@@ -50,6 +51,7 @@ fn play_events(
             let refused = o.position;
             return Told {
                 at: place,
+                answer: o.answer,
                 position: refused,
             };
         }
@@ -59,6 +61,7 @@ fn play_events(
     let last = o.position;
     Told {
         at: place,
+        answer: o.answer,
         position: last,
     }
 }

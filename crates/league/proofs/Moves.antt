@@ -69,7 +69,7 @@ use Rattle.league.proofs.Sums.{resolve-leaves, pair-leaves}
 
 -- ---- setup ---------------------------------------------------------------------------------------------------------------------------------
 
-setup-number : (n : ℕ) (B : List ℤ) (s : Settings) (shown bits : List ℕ) → setupBy n B (freshOf s 0) s shown bits .answer .number ≡ 0 → n ≡ 0
+pub setup-number : (n : ℕ) (B : List ℤ) (s : Settings) (shown bits : List ℕ) → setupBy n B (freshOf s 0) s shown bits .answer .number ≡ 0 → n ≡ 0
 unfolding setupBy
 setup-number n B s shown bits e = go (eqb n 0) refl e
   where
@@ -141,7 +141,7 @@ played-play before o work = go (leb 20 (o .answer))
     go false = refl
 
 -- an event as a call, with enough work or without
-event-plays : (B : List ℤ) (o : Play) (d : Desk) (work : List ℕ) → positionCheck B d ≡ 0
+pub event-plays : (B : List ℤ) (o : Play) (d : Desk) (work : List ℕ) → positionCheck B d ≡ 0
     → playOf (tested B d work o) ≡ pick (workFits (d .position .settings) work) o (done 21 d)
 unfolding lentRefusal positionCheck
 event-plays B o d work e =

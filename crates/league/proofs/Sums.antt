@@ -72,14 +72,14 @@ pair-leaves code r c B d work o (stepped a h z s) =
 
 -- ---- the value of a call -----------------------------------------------------------------------------------------------------------------
 
-none-opened : (shown : List ℕ) → openedIn shown shown ≡ 0
+pub none-opened : (shown : List ℕ) → openedIn shown shown ≡ 0
 none-opened shown = omega arith
 
 -- the value is what the boards show
-abbrev Opens : Desk → Outcome → Type 0
+abbrev pub Opens : Desk → Outcome → Type 0
 Opens d o = o .answer .value ≡ openedIn (d .shown) (o .shown)
 
-played-value : (d : Desk) (o : Play) (work : List ℕ) → (20 ≤ o .answer → o .desk ≡ d) → Opens d (played (d .shown) o work)
+pub played-value : (d : Desk) (o : Play) (work : List ℕ) → (20 ≤ o .answer → o .desk ≡ d) → Opens d (played (d .shown) o work)
 played-value d o work stays =
     pick-both (Opens d) (leb 20 (o .answer)) (refused (o .answer) (o .desk) work) (accepted (o .answer) (openedIn (d .shown) (o .desk .shown)) (o .desk) work)
     (λ e. sym (ap (λ (x : Desk). openedIn (d .shown) (x .shown)) (stays (leb-true 20 (o .answer) e)) ∙ none-opened (d .shown))) (λ _. refl)

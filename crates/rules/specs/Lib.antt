@@ -15,4 +15,5 @@ pub mod Promises
 pub mod Book
 pub mod Printout
 pub mod Picture
+pub mod Noflag
 pub mod Positions

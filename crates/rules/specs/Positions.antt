@@ -1,5 +1,6 @@
 -- The positions that document 01 marks P, and twelve beside them, as one table and one theorem that the checker computes over the definitions; after it
--- the same for the number of safe cells still closed, for positions that are refused, and for events that are resolved or played as they are.
+-- the same for the number of safe cells still closed, for positions that are refused, for events that are resolved or played as they are, and for the
+-- no-flag class.
 -- Open is lc, lr; flag rc, rr. Each row is a game from its fresh start: settings, mine list, events, all that stands at its end, and what each event opened.
 use mathlib.Core.Path.{_≡_, refl}
 use mathlib.Core.Bool.{Bool, true, false, _&&_}
@@ -26,7 +27,9 @@ use Rattle.rules.specs.Mouse.{mouseTable, nextMouse, moved, bothDown, ru
 use Rattle.rules.specs.Step.{seenAt, leftAt, rightAt, chordAt, chordFrom, playLc, playLr, playRc, playRr, playing, preFlag, readyLc, readyRc, ready, preLeft, preLr, preCell, preRight, preRc, preFlaging, byGame, pointerOf, eventOf, errsPlaying, errsPreFlaging, badPreFlag, eventRefusal, plainOf, refusalAt, playAt, stepAt, stepBy, stepOn, plainCode, plainOn}
 use Rattle.rules.specs.Lawful.{cellLawful, shownLawful, bitsLawful, countsLawful, gameLawful, statesLawful, lawfulRefusal, unopenedIn}
 use Rattle.rules.specs.Calls.{boardsFit, modeOk, settingsRefusal, positionRefusal, positionCheck, positionCheckOf, freshDesk, resolveBy, resolveOf, plays, lastPlay}
+use Rattle.rules.specs.Book.{eventsFrom, minesFrom, minesSection, bookEnds}
 use Rattle.rules.specs.Printout.{nineCounts, twoBv}
+use Rattle.rules.specs.Noflag.{forbidden, classRefusalAt, classStepAt, classStepBy, classStepOn, classSettingsRefusal, classSetupRefusal, classSettingsSection, classSectionsOf, classBookOf, classPlays}
 
 pub record Row : Type 0 where
   pub name : ℕ
@@ -389,3 +392,90 @@ unfolding wrongHanded same resolving playingPlain handTable handed hand right-nu
     modeOk boardRefusal sizeOk valuesOk numbersOk numberOk someSafe every count around neighbour ninth cellBefore lawfulRefusal shownLawful cellLawful bitsLawful bitAt
     countsLawful unopenedIn countShown statesLawful gameLawful rulesOk faultOf bothDown resolved flipped byGame ready pointerOf eventOf badPreFlag eventRefusal plainOf refusalAt playAt stepAt stepBy stepOn
 handed-positions = refl
+
+-- ---- the no-flag class -----------------------------------------------------------------------------------------------------------------
+
+-- what is computed, and what it is to be
+pub record Said : Type 0 where
+  pub name : ℕ
+  pub gives : List ℕ
+  pub says : List ℕ
+
+-- the names of the rows that do not hold
+pub wrongSaid : List Said → List ℕ
+wrongSaid [] = []
+wrongSaid (t ∷ ts) =
+    let more = wrongSaid ts in
+    pick (same eqb (t .gives) (t .says)) more (t .name ∷ more)
+
+said : ℕ → List ℕ → List ℕ → Said
+said n gives says = record { name = n; gives = gives; says = says }
+
+-- answer, game and mouse state after each event, and the nine counts at the end
+unfoldable linesOf : List Play → List ℕ
+linesOf [] = []
+linesOf (o ∷ os) = o .answer ∷ gameNumber (o .desk .position .game) ∷ mouseNumber (o .desk .position .mouse) ∷ linesOf os
+
+unfoldable classLines : Settings → List ℕ → List ℕ → List ℕ
+classLines s mines events =
+    let B = numbered (s .rows) (s .columns) mines in
+    let os = classPlays B events (freshDesk s B) in
+    linesOf os ++ nineCounts (lastPlay (done 0 (freshDesk s B)) os .desk .position)
+
+-- one event at a desk of 3 × 3: its answer, and the events then
+unfoldable classAt : Desk → ℕ → ℕ → ℕ → List ℕ
+classAt d code r c =
+    let o = classStepOn right-numbers code r c d in
+    o .answer ∷ o .desk .position .events ∷ []
+
+-- setup on a board of 3 × 3
+unfoldable classSets : Settings → List ℕ
+classSets s = classSetupRefusal s right-numbers (replicate 9 10) (0 ∷ 0 ∷ []) ∷ []
+
+-- a book's number and place
+unfoldable classReads : List ℕ → List ℕ
+classReads s = classBookOf s .number ∷ classBookOf s .place ∷ []
+
+pub classTable : List Said
+classTable =
+    -- worked.book: 1×3, mine (0,1); open (0,0), rc (0,1): 34, nothing counted
+    said 1 (classLines (size 1 3 0 false) (0 ∷ 1 ∷ []) (open′ 0 0 (event 2 0 1 (event 3 0 1 []))))
+    (0 ∷ 4 ∷ 3 ∷ 2 ∷ 1 ∷ 0 ∷ 34 ∷ 1 ∷ 0 ∷ 1 ∷ 0 ∷ 0 ∷ 1 ∷ 0 ∷ 0 ∷ 0 ∷ 1 ∷ 0 ∷ [])
+    -- 2×2, mine (0,0); l, l, m, m, r on (1,1): the middle button chords, and only double counts
+    ∷ said 2 (classLines (size 2 2 0 false) (0 ∷ 0 ∷ []) (event 9 1 1 (event 9 1 1 (event 11 1 1 (event 11 1 1 (event 10 1 1 []))))))
+    (0 ∷ 4 ∷ 3 ∷ 2 ∷ 1 ∷ 0 ∷ 0 ∷ 1 ∷ 0 ∷ 0 ∷ 1 ∷ 0 ∷ 34 ∷ 1 ∷ 0 ∷ 1 ∷ 0 ∷ 1 ∷ 1 ∷ 0 ∷ 0 ∷ 0 ∷ 1 ∷ 0 ∷ [])
+    -- 1×1; open: in Win pf is 34, and an unknown code 0
+    ∷ said 3 (classLines (size 1 1 0 false) [] (open′ 0 0 (event 8 0 0 [])))
+    (0 ∷ 4 ∷ 3 ∷ 2 ∷ 2 ∷ 0 ∷ 34 ∷ 2 ∷ 0 ∷ 1 ∷ 0 ∷ 0 ∷ 1 ∷ 0 ∷ 0 ∷ 0 ∷ 1 ∷ 0 ∷ [])
+    ∷ said 4 (classLines (size 1 1 0 false) [] (open′ 0 0 (event 200 0 0 [])))
+    (0 ∷ 4 ∷ 3 ∷ 2 ∷ 2 ∷ 0 ∷ 0 ∷ 2 ∷ 0 ∷ 1 ∷ 0 ∷ 0 ∷ 1 ∷ 0 ∷ 0 ∷ 0 ∷ 1 ∷ 0 ∷ [])
+    -- in Ready on a cell: every forbidden code, and 12
+    ∷ said 5 (classAt (hand Ready UpUp false 0 (size 3 3 0 false)) 2 0 0) (34 ∷ 0 ∷ [])
+    ∷ said 6 (classAt (hand Ready UpUp false 0 (size 3 3 0 false)) 3 0 0) (34 ∷ 0 ∷ [])
+    ∷ said 7 (classAt (hand Ready UpUp false 0 (size 3 3 0 false)) 7 0 0) (34 ∷ 0 ∷ [])
+    ∷ said 8 (classAt (hand Ready UpUp false 0 (size 3 3 0 false)) 8 0 0) (34 ∷ 0 ∷ [])
+    ∷ said 9 (classAt (hand Ready UpUp false 0 (size 3 3 0 false)) 10 0 0) (34 ∷ 0 ∷ [])
+    ∷ said 10 (classAt (hand Ready UpUp false 0 (size 3 3 0 false)) 12 0 0) (33 ∷ 0 ∷ [])
+    -- r at (0,3) is 30, after 65,535 events 31; pf off the board is 34, and not 32
+    ∷ said 11 (classAt (hand Ready UpUp false 0 (size 3 3 0 false)) 10 0 3) (30 ∷ 0 ∷ [])
+    ∷ said 12 (classAt (hand Ready UpUp false 65535 (size 3 3 0 false)) 10 0 0) (31 ∷ 65535 ∷ [])
+    ∷ said 13 (classAt (hand Ready UpUp false 0 (size 3 3 0 false)) 8 3 3) (34 ∷ 0 ∷ [])
+    -- setup: mode 0; mode 1, before its rules; rules 3
+    ∷ said 14 (classSets (byRules 2 (size 3 3 0 true))) (0 ∷ [])
+    ∷ said 15 (classSets (byRules 3 (size 3 3 1 false))) (25 ∷ [])
+    ∷ said 16 (classSets (byRules 3 (size 3 3 0 false))) (45 ∷ [])
+    -- a book of 1×1 without mines and events; of 2×2 in mode 1 with rules 9; its question setting is read before the mode, its size too
+    ∷ said 17 (classReads (4 ∷ 1 ∷ 1 ∷ 0 ∷ 0 ∷ 0 ∷ 0 ∷ 0 ∷ 0 ∷ [])) (0 ∷ 0 ∷ [])
+    ∷ said 18 (classReads (5 ∷ 2 ∷ 2 ∷ 1 ∷ 0 ∷ 9 ∷ [])) (25 ∷ 3 ∷ [])
+    ∷ said 19 (classReads (5 ∷ 2 ∷ 2 ∷ 1 ∷ 2 ∷ 9 ∷ [])) (41 ∷ 4 ∷ [])
+    ∷ said 20 (classReads (5 ∷ 0 ∷ 2 ∷ 1 ∷ 0 ∷ 9 ∷ [])) (20 ∷ 1 ∷ [])
+    ∷ []
+
+pub class-positions : wrongSaid classTable ≡ []
+unfolding wrongSaid same classTable said linesOf classLines classAt classSets classReads right-numbers numbers hand size byRules open′ event count every inOrder stackOf rounds mouseAt sizeOk ninth
+    cellBefore neighbour around cellsIf pushed zeroAt loneAt listedMine numberedAt numbered shownAfter stackAfter hitAfter run crossed refreshed freeAt kind walk walkFrom judgedLeft
+    safeIn ended solvesLeft leftOpens leftClick chordIsUseful performChord passesAfterChord chordingClick mouseTable nextMouse moved bothDown resolved flipped seenAt
+    leftAt chordAt chordFrom playLc playLr playing readyLc ready preLeft preLr preFlaging byGame pointerOf eventOf errsPlaying errsPreFlaging badPreFlag eventRefusal plainOf
+    playAt countShown lastPlay boardsFit boardRefusal valuesOk numbersOk numberOk someSafe rulesOk forbidden classRefusalAt classStepAt classStepBy classStepOn classSettingsRefusal classSetupRefusal
+    classSettingsSection classSectionsOf classBookOf classPlays eventsFrom minesFrom minesSection bookEnds
+class-positions = refl

@@ -86,7 +86,7 @@ seen-bared before (o ∷ os) = ap (λ (l : List Seen). seen before o ∷ l) (see
 -- ---- the fresh start ---------------------------------------------------------------------------------------------------------------------
 
 -- what the board check accepts
-checked : (R C : ℕ) (B : List ℤ) → boardCheck R C B ≡ 0 → (length B ≡ R * C) × Valued B
+pub checked : (R C : ℕ) (B : List ℤ) → boardCheck R C B ≡ 0 → (length B ≡ R * C) × Valued B
 unfolding boardCheck
 checked R C B e = let a = board-accepted R C (eqb (length B) (R * C)) B e in (eqb-true (length B) (R * C) (a .fits), values-valued B (a .values))
 

@@ -1,0 +1,9 @@
+pub mod Same
+pub mod Bare
+pub mod Opens
+pub mod Events
+pub mod Clean
+pub mod Lawful
+pub mod Calls
+pub mod Secrecy
+pub mod Games

@@ -1,0 +1,4 @@
+pub mod Class
+pub mod Demand
+pub mod Calls
+pub mod Games

@@ -1,0 +1,5 @@
+pub mod Moding
+pub mod Stepping
+pub mod Booking
+pub mod Outcomes
+pub mod Opened

@@ -1,0 +1,5 @@
+pub mod Freeing
+pub mod Cutting
+pub mod Barring
+pub mod Games
+pub mod Lending
