@@ -1,4 +1,4 @@
-// The board check, refusals 20 to 24, with the cell that is wrong; and the fresh desk.
+// The board check, refusals 20 to 24, with the cell that is wrong; how many cells are safe; and the fresh desk.
 // The contracts cite Board and Calls of rules; specs/ has what the search for that cell requires.
 ghost use mathlib.Core.Path.{_≡_};
 ghost use mathlib.Core.Bool.{true};
@@ -184,7 +184,7 @@ pub fn fault_of(rows: u8, columns: u8, mines: &[i8], n: u16) -> Place
 }
 
 // How many cells are safe.
-fn safe_cells(mines: &[i8]) -> u32
+pub fn safe_cells(mines: &[i8]) -> u32
     requires { ⌜ Valued (now mines) ⌝ }
     requires { ⌜ length (now mines) ≤ 2048 ⌝ }
     ensures { λ r. ⌜ r ≡ safeIn (now (mines .entry)) ⌝ }

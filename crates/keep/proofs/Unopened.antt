@@ -79,7 +79,7 @@ open-safe q loss f x e o =
     ne-eqb f 15 (λ z. omega arith)
 
 -- with the open cells they are the safe ones
-unopened-open : (B : List ℤ) (l : List ℕ) → OpenSafe B l → unopenedIn B l + countShown isOpen l ≡ count (λ i. not (mineAt B i)) (length l)
+pub unopened-open : (B : List ℤ) (l : List ℕ) → OpenSafe B l → unopenedIn B l + countShown isOpen l ≡ count (λ i. not (mineAt B i)) (length l)
 unfolding unopenedIn countShown
 unopened-open B l s =
     count-split (λ i. not (doneAt B l i)) (λ i. isOpen (getD l i 0)) (λ i. not (mineAt B i)) (length l)

@@ -1,20 +1,25 @@
 -- The scans: one cell more in the census, and the tests of every cell and every bit up to the first that fails.
 use mathlib.Core.Path.{_≡_, refl, ap, sym, _∙_}
-use mathlib.Core.Bool.{Bool, true, false}
+use mathlib.Core.Bool.{Bool, true, false, true≢false}
 use mathlib.Core.List.{List}
-use Prim.Native.Nat.{ℕ, _+_, _*_, _<_, _≤_}
+use Prim.Native.Nat.{ℕ, _+_, _*_, _/_, _%_, _^_, _<_, _≤_}
 use native.Mathlib.Omega.{arith}
+use lib.Dec.{eqb}
 use lib.ListN.{length, getD}
 use lib.IntN.{ℤ}
 use Rattle.rules.specs.declared.Position.{Position}
 use Rattle.rules.specs.Words.{bit, count, every}
 use Rattle.rules.specs.Board.{faceAt}
+use Rattle.rules.specs.Lent.{bitAt}
 use Rattle.rules.specs.Opening.{isOpen}
 use Rattle.rules.specs.Clicks.{desk}
 use Rattle.rules.specs.Lawful.{shows, cellLawful, bitsLawful}
-use Rattle.cells.proofs.Words.{count-turn, count-le, every-turn, every-fails}
+use Rattle.cells.proofs.Words.{and-both, count-turn, count-le, every-at, every-all, every-turn, every-fails}
+use Rattle.bits.proofs.Bits.{bit-none}
+use Rattle.boards.proofs.Scans.{every-add}
 use Rattle.lawful.specs.declared.Census.{Census}
-use Rattle.lawful.specs.Parts.{amongFirst, Counted, OneMore, cellsLawful, bitLawful}
+use Rattle.lawful.specs.Parts.{amongFirst, Counted, OneMore, cellsLawful, bitLawful, byteLawful}
+use Rattle.lawful.proofs.Tests.{bit-clear}
 
 -- ---- the census ------------------------------------------------------------------------------------------------------------------------
 
@@ -76,16 +81,41 @@ module _ (question loss : Bool) (B : List ℤ) (shown : List ℕ) where
 -- ---- every bit -------------------------------------------------------------------------------------------------------------------------
 
 module _ (B : List ℤ) (bits : List ℕ) where
-  pub bits-none : every (bitLawful B bits) 0 ≡ true
+  -- a byte that is 0 has no bit, as no byte at all
+  byte-none : (n : ℕ) → getD bits (n / 8) 0 ≡ 0 → bitAt bits n ≡ false
+  unfolding bitAt
+  byte-none n e = ap (λ (x : ℕ). eqb (x / 2 ^ (n % 8) % 2) 1) e ∙ bit-none 0 n
+
+  pub byte-clear : (k : ℕ) → getD bits k 0 ≡ 0 → true ≡ byteLawful B bits k
+  byte-clear k e =
+      sym (every-all (λ j. bitLawful B bits (8 * k + j)) 8
+      (λ j h. let q : (8 * k + j) / 8 ≡ k = omega arith in
+      sym (bit-clear B bits (8 * k + j) _ refl (byte-none (8 * k + j) (ap (λ (i : ℕ). getD bits i 0) q ∙ e)))))
+
+  pub bits-none : every (bitLawful B bits) (8 * 0) ≡ true
   unfolding every
   bits-none = refl
 
-  pub bits-stop : (k : ℕ) (r : Bool) → k < 8 * length bits → r ≡ bitLawful B bits k → r ≡ false
+  pub bits-turn : (k : ℕ) → every (bitLawful B bits) (8 * k) ≡ true → byteLawful B bits k ≡ true → every (bitLawful B bits) (8 * (k + 1)) ≡ true
+  bits-turn k h e =
+      let d : 8 * (k + 1) ≡ 8 * k + 8 = omega arith in
+      ap (every (bitLawful B bits)) d ∙ every-add (bitLawful B bits) (8 * k) 8 ∙ and-both _ _ h e
+
+  byte-fails : (k : ℕ) → k < length bits → byteLawful B bits k ≡ false → every (bitLawful B bits) (8 * length bits) ≡ false
+  byte-fails k l e = go (every (bitLawful B bits) (8 * length bits)) refl
+    where
+      go : (b : Bool) → every (bitLawful B bits) (8 * length bits) ≡ b → every (bitLawful B bits) (8 * length bits) ≡ false
+      go true d =
+          absurd (true≢false
+          (sym (every-all (λ j. bitLawful B bits (8 * k + j)) 8 (λ j h. every-at (bitLawful B bits) (8 * length bits) d (8 * k + j) (omega arith))) ∙ e))
+      go false d = d
+
+  pub bits-stop : (k : ℕ) (r : Bool) → k < length bits → r ≡ byteLawful B bits k → r ≡ false
       → (p : Position) (shown : List ℕ) → false ≡ bitsLawful B (desk p shown bits)
   unfolding bitsLawful bitLawful
-  bits-stop k r l d t p shown = sym (every-fails (bitLawful B bits) (8 * length bits) k l (sym d ∙ t))
+  bits-stop k r l d t p shown = sym (byte-fails k l (sym d ∙ t))
 
-  pub bits-done : (k : ℕ) → 8 * length bits ≤ k → k ≤ 8 * length bits → every (bitLawful B bits) k ≡ true
+  pub bits-done : (k : ℕ) → length bits ≤ k → k ≤ length bits → every (bitLawful B bits) (8 * k) ≡ true
       → (p : Position) (shown : List ℕ) → true ≡ bitsLawful B (desk p shown bits)
   unfolding bitsLawful bitLawful
-  bits-done k h l e p shown = let d : k ≡ 8 * length bits = omega arith in sym e ∙ ap (every (bitLawful B bits)) d
+  bits-done k h l e p shown = let d : k ≡ length bits = omega arith in sym e ∙ ap (λ (n : ℕ). every (bitLawful B bits) (8 * n)) d

@@ -2,21 +2,22 @@
 use mathlib.Core.Path.{_≡_, refl, ap, ap₂, sym, _∙_}
 use mathlib.Core.Bool.{Bool, true, false, not, _&&_, _||_}
 use mathlib.Core.List.{List}
-use Prim.Native.Nat.{ℕ, zero, suc, _+_, _<_, _≤_}
+use Prim.Native.Nat.{ℕ, zero, suc, _+_, _-_, _<_, _≤_}
 use native.Mathlib.Omega.{arith}
 use borrow.Author.Tests.{eqb-true, leb-true, lt-leb, ne-eqb, le-leb, not-true, not-false}
 use lib.Dec.{leb, eqb}
 use lib.ListN.{length, getD, List·getD-eq-default}
 use lib.IntN.{ℤ, pos}
 use Rattle.rules.specs.declared.Position.{Position}
-use Rattle.rules.specs.Words.{pick, bit, count}
-use Rattle.rules.specs.Board.{faceAt}
+use Rattle.rules.specs.Words.{pick, bit, count, every}
+use Rattle.rules.specs.Board.{faceAt, mineAt, safeIn}
 use Rattle.rules.specs.Lent.{bitAt}
 use Rattle.rules.specs.Clicks.{Desk, desk}
 use Rattle.rules.specs.Lawful.{unopenedIn, shows, isFlag, isOpenOrHit, cellLawful, shownLawful, bitsLawful, countsLawful, statesLawful, lawfulRefusal}
 use Rattle.rules.specs.States.{isLoss}
 use Rattle.rules.specs.Opening.{countShown, isOpen}
-use Rattle.cells.proofs.Words.{and-left, and-right}
+use Rattle.cells.proofs.Words.{and-left, and-right, every-at}
+use Rattle.keep.proofs.Unopened.{OpenSafe, open-safe, unopened-open}
 use Rattle.lawful.specs.declared.Census.{Census}
 use Rattle.lawful.specs.Parts.{Counted, cellsLawful, bitLawful}
 
@@ -141,6 +142,27 @@ module _ (shown : List ℕ) (c : Census) (h : Counted shown (length shown) c) wh
       ≡ countsLawful B (desk p shown bits)
   unfolding countsLawful
   counts-is B unopened e p bits = rw (flags-are, opens-are, open-are, e)
+
+-- where every cell shows what it may the safe cells not open are the board's safe cells less the open ones
+module _ (B : List ℤ) (d : Desk) (c : Census) {a : Bool} (ha : a ≡ shownLawful B d) (ta : not a ≡ false)
+    (same : length B ≡ length (d .shown)) (h : Counted (d .shown) (length (d .shown)) c) {safe : ℕ} (hs : safe ≡ safeIn B) where
+  opens-safe : OpenSafe B (d .shown)
+  unfolding shownLawful
+  opens-safe i l =
+      let cell : ℕ → Bool = λ j. cellLawful (d .position .settings .question) (isLoss (d .position .game)) (faceAt B j) (getD (d .shown) j 0) in
+      open-safe _ _ _ _ (every-at cell (length (d .shown)) (and-left (every cell (length (d .shown))) _ (sym ha ∙ not-false _ ta)) i l)
+
+  with-open : unopenedIn B (d .shown) + c .opens ≡ safe
+  unfolding safeIn
+  with-open =
+      ap (λ (n : ℕ). unopenedIn B (d .shown) + n) (open-are (d .shown) c h) ∙ unopened-open B (d .shown) opens-safe
+      ∙ ap (count (λ i. not (mineAt B i))) (sym same) ∙ sym hs
+
+  pub opens-fit : c .opens ≤ safe
+  opens-fit = omega (arith, with-open)
+
+  pub unopened-is : safe - c .opens ≡ unopenedIn B (d .shown)
+  unopened-is = omega (arith, with-open)
 
 -- ---- the chain -------------------------------------------------------------------------------------------------------------------------
 

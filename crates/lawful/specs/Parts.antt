@@ -2,7 +2,7 @@
 use mathlib.Core.Path.{_≡_}
 use mathlib.Core.Bool.{Bool, not, _||_}
 use mathlib.Core.List.{List}
-use Prim.Native.Nat.{ℕ, _+_, _≤_}
+use Prim.Native.Nat.{ℕ, _+_, _*_, _≤_}
 use lib.ListN.{length, getD}
 use lib.IntN.{ℤ}
 use Rattle.rules.specs.Words.{bit, count, every}
@@ -38,6 +38,10 @@ cellsLawful question loss B shown n = every (λ i. cellLawful question loss (fac
 -- a bit is clear, or that of a mine
 unfoldable pub bitLawful : List ℤ → List ℕ → ℕ → Bool
 bitLawful B bits n = not (bitAt bits n) || mineAt B n
+
+-- so are the eight of a byte
+abbrev pub byteLawful : List ℤ → List ℕ → ℕ → Bool
+byteLawful B bits at = every (λ k. bitLawful B bits (8 * at + k)) 8
 
 -- boards that can be checked: the tests before this one give this
 pub record Checkable (B : List ℤ) (shown bits : List ℕ) : Type 0 where

@@ -1,5 +1,5 @@
 // 261 to 264: the lawful position, clause by clause, in the four parts and the order of rules' Lawful: shown values, bits, counts, what the states ask.
-// One scan counts the shown board, another the safe cells not open. The tests of the counts are made in 64 bits, where no sum of given counts wraps.
+// One scan counts the shown board. The tests of the counts are made in 64 bits, where no sum of given counts wraps.
 ghost use mathlib.Core.Path.{_≡_};
 ghost use mathlib.Core.List.{List};
 ghost use Prim.Native.Nat.{ℕ, _+_, _*_, _<_, _≤_};
@@ -10,7 +10,7 @@ ghost use Rattle.rules.specs.States.{isLoss, isNotFlag};
 ghost use Rattle.rules.specs.Clicks.{desk};
 ghost use Rattle.rules.specs.Lawful.{unopenedIn, cellLawful, shownLawful, bitsLawful, countsLawful, gameLawful, statesLawful, lawfulRefusal};
 ghost use Rattle.cells.specs.Ground.{Valued};
-ghost use Rattle.lawful.specs.Parts.{Counted, OneMore, Checkable, cellsLawful, bitLawful};
+ghost use Rattle.lawful.specs.Parts.{Counted, OneMore, Checkable, cellsLawful, bitLawful, byteLawful};
 use rules::GameState;
 use rules::MouseState;
 use rules::Position;
@@ -156,42 +156,42 @@ fn bit_lawful(mines: &[i8], bits: &[u8], n: usize) -> bool
     cells::face_at(mines, n) == 15
 }
 
+// Each bit of a byte is clear, or that of a mine; a byte that is 0 has none.
+fn byte_lawful(mines: &[i8], bits: &[u8], at: usize) -> bool
+    requires { ⌜ at < length (now bits) ⌝ }
+    requires { ⌜ length (now bits) ≤ 2048 ⌝ }
+    requires { ⌜ Valued (now mines) ⌝ }
+    ensures { λ r. ⌜ r ≡ byteLawful (now (mines .entry)) (now (bits .entry)) at ⌝ }
+{
+    if bits[at] == 0 {
+        return true;
+    }
+    let mut all = true;
+    for k in 0..8 {
+        let fine = bit_lawful(mines, bits, 8 * at + k);
+        all = all & fine;
+    }
+    all
+}
+
 // Bits only on mines, so that the spare bits are clear.
 pub fn bits_lawful(mines: &[i8], bits: &[u8]) -> bool
     requires { ⌜ length (now bits) ≤ 2048 ⌝ }
     requires { ⌜ Valued (now mines) ⌝ }
     ensures { λ r. ⌜ ((p : Position) (shown : List ℕ) → r ≡ bitsLawful (now (mines .entry)) (desk p shown (now (bits .entry)))) ⌝ }
 {
-    let mut n = 0;
-    while n < 8 * bits.len() {
-        let fine = bit_lawful(mines, bits, n);
+    let mut at = 0;
+    while at < bits.len() {
+        let fine = byte_lawful(mines, bits, at);
         if !fine {
             return false;
         }
-        n += 1;
+        at += 1;
     }
     true
 }
 
 // ---- counts ----------------------------------------------------------------------------------------------------------------------------
-
-// How many safe cells do not show 0 to 8.
-fn count_unopened(mines: &[i8], shown: &[u8]) -> u32
-    requires { ⌜ length (now mines) ≡ length (now shown) ⌝ }
-    requires { ⌜ Valued (now mines) ⌝ }
-    requires { ⌜ length (now shown) ≤ 2048 ⌝ }
-    ensures { λ r. ⌜ r ≡ unopenedIn (now (mines .entry)) (now (shown .entry)) ⌝ }
-{
-    let mut n = 0;
-    let mut i = 0;
-    while i < shown.len() {
-        let f = cells::face_at(mines, i);
-        let one = cells::one_if(!((f == 15) | (shown[i] <= 8)));
-        n += one;
-        i += 1;
-    }
-    n
-}
 
 // The counts against the events, the shown board and the safe cells not open.
 pub fn counts_lawful(p: Position, c: Census, unopened: u32) -> bool
@@ -252,7 +252,9 @@ pub fn lawful_refusal(p: Position, mines: &[i8], shown: &[u8], bits: &[u8]) -> u
     if !bits_lawful(mines, bits) {
         return 262;
     }
-    let unopened = count_unopened(mines, shown);
+    // every open cell is safe: 261 has seen to that
+    let safe = boards::safe_cells(mines);
+    let unopened = safe - c.opens;
     if !counts_lawful(p, c, unopened) {
         return 263;
     }

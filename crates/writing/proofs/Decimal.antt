@@ -1,7 +1,7 @@
 -- Decimal texts: the last digit stands last, and a number below a power of ten has at most so many digits.
 use mathlib.Core.Path.{_≡_, refl, ap, sym, _∙_}
 use mathlib.Core.Bool.{Bool, true, false}
-use mathlib.Core.List.{List, [], _∷_, _++_}
+use mathlib.Core.List.{List, [], _∷_, _++_, append-assoc}
 use Prim.Native.Nat.{ℕ, zero, suc, _+_, _*_, _/_, _%_, _<_, _≤_}
 use native.Mathlib.Omega.{arith}
 use lib.Dec.{ltb}
@@ -56,6 +56,22 @@ pub decimal-last : (n : ℕ) → 10 ≤ n → n < 4294967296 → decimal n ≡ d
 decimal-last n h small =
     digits-more 9 n [] h ∙ digits-before 9 (n / 10) [] ((48 + n % 10) ∷ [])
     ∙ ap (λ (l : List ℕ). l ++ ((48 + n % 10) ∷ [])) (sym (digits-enough 8 (n / 10) [] (omega arith)))
+
+-- two digits at once: all there are, or the last ones
+pub decimal-two : (n : ℕ) → 10 ≤ n → n < 100 → decimal n ≡ (48 + n / 10) ∷ (48 + n % 10) ∷ []
+decimal-two n h small = decimal-last n h (omega arith) ∙ ap (λ (l : List ℕ). l ++ ((48 + n % 10) ∷ [])) (decimal-one (n / 10) (omega arith))
+
+pub decimal-pair : (n : ℕ) → 100 ≤ n → n < 4294967296 → decimal n ≡ decimal (n / 100) ++ ((48 + n % 100 / 10) ∷ (48 + n % 100 % 10) ∷ [])
+decimal-pair n h small =
+    let a : n / 10 / 10 ≡ n / 100 = omega arith in
+    let b : n / 10 % 10 ≡ n % 100 / 10 = omega arith in
+    let e : n % 10 ≡ n % 100 % 10 = omega arith in
+    decimal-last n (omega arith) small
+    ∙ ap (λ (l : List ℕ). l ++ ((48 + n % 10) ∷ [])) (decimal-last (n / 10) (omega arith) (omega arith))
+    ∙ append-assoc (decimal (n / 10 / 10)) ((48 + n / 10 % 10) ∷ []) ((48 + n % 10) ∷ [])
+    ∙ ap (λ (m : ℕ). decimal m ++ ((48 + n / 10 % 10) ∷ (48 + n % 10) ∷ [])) a
+    ∙ ap (λ (m : ℕ). decimal (n / 100) ++ ((48 + m) ∷ (48 + n % 10) ∷ [])) b
+    ∙ ap (λ (m : ℕ). decimal (n / 100) ++ ((48 + n % 100 / 10) ∷ (48 + m) ∷ [])) e
 
 -- ---- lengths ---------------------------------------------------------------------------------------------------------------------------
 

@@ -2,7 +2,7 @@
 // The contracts cite rules/specs/Printout.antt for the texts and specs/Put.antt for what writing is; the caller gives the room.
 ghost use mathlib.Core.Path.{_≡_};
 ghost use mathlib.Core.List.{_∷_, []};
-ghost use Prim.Native.Nat.{_<_};
+ghost use Prim.Native.Nat.{_+_, _/_, _%_, _<_};
 ghost use Rattle.rules.specs.Printout.{decimal, spaced, lineOf, wordLine};
 ghost use Rattle.writing.specs.Put.{Room, Put};
 
@@ -33,7 +33,32 @@ pub fn put_bytes(out: &mut [u8], at: usize, word: &[u8]) -> usize
     o
 }
 
-// A number's decimal digits, the first ones first.
+// Two digits.
+fn put_pair(out: &mut [u8], at: usize, n: u32) -> usize
+    requires { ⌜ n < 100 ⌝ }
+    requires { ⌜ Room ((48 + n / 10) ∷ (48 + n % 10) ∷ []) at (now out) ⌝ }
+    ensures { λ r. ⌜ Put ((48 + n / 10) ∷ (48 + n % 10) ∷ []) at (now (out .entry)) (now (out .exit)) r ⌝ }
+{
+    let next = put_byte(out, at, 48 + (n / 10) as u8);
+    put_byte(out, next, 48 + (n % 10) as u8)
+}
+
+// A number's decimal digits, the first ones first, two to a call.
+fn put_digits(out: &mut [u8], at: usize, n: u32) -> usize
+    requires { ⌜ Room (decimal n) at (now out) ⌝ }
+    ensures { λ r. ⌜ Put (decimal n) at (now (out .entry)) (now (out .exit)) r ⌝ }
+{
+    if n < 10 {
+        return put_byte(out, at, 48 + n as u8);
+    }
+    if n < 100 {
+        return put_pair(out, at, n);
+    }
+    let next = put_digits(out, at, n / 100);
+    put_pair(out, next, n % 100)
+}
+
+// The same: one digit, as most numbers have, is put without a call, which the compiler makes of every function that calls itself.
 pub fn put_decimal(out: &mut [u8], at: usize, n: u32) -> usize
     requires { ⌜ Room (decimal n) at (now out) ⌝ }
     ensures { λ r. ⌜ Put (decimal n) at (now (out .entry)) (now (out .exit)) r ⌝ }
@@ -41,8 +66,7 @@ pub fn put_decimal(out: &mut [u8], at: usize, n: u32) -> usize
     if n < 10 {
         return put_byte(out, at, 48 + n as u8);
     }
-    let next = put_decimal(out, at, n / 10);
-    put_byte(out, next, 48 + (n % 10) as u8)
+    put_digits(out, at, n)
 }
 
 // A number with a space before it.
