@@ -55,6 +55,23 @@ extern "C" {
         counts_len: usize,
     ) -> u16;
 
+    fn bench_drag(
+        kept: usize,
+        book: *const u8,
+        book_len: usize,
+        n: usize,
+        k: usize,
+        mines: *mut i8,
+        mines_len: usize,
+        shown: *mut u8,
+        shown_len: usize,
+        bits: *mut u8,
+        bits_len: usize,
+        work: *mut u16,
+        work_len: usize,
+        room: *mut u8,
+        room_len: usize,
+    ) -> usize;
     fn bench_replay(
         book: *const u8,
         book_len: usize,
@@ -197,4 +214,48 @@ pub fn print_book(book: &[u8], rooms: &mut Rooms) -> usize {
             rooms.text.len(),
         )
     }
+}
+
+/// What drags over a book are made in, and how many positions are kept.
+pub struct Slides {
+    pub kept: usize,
+    mines: Vec<i8>,
+    pub shown: Vec<u8>,
+    bits: Vec<u8>,
+    work: Vec<u16>,
+    room: Vec<u8>,
+}
+
+impl Slides {
+    /// With room for so many positions.
+    pub fn new(rows: usize, columns: usize, most: usize) -> Slides {
+        let cells = rows * columns;
+        let bytes = cells.div_ceil(8);
+        let (mines, shown, bits, work) = (vec![0; cells], vec![0; cells], vec![0; bytes], vec![0; 8 * cells + 8]);
+        Slides { kept: 0, mines, shown, bits, work, room: vec![0; most * (56 + cells + bytes)] }
+    }
+}
+
+/// A drag to event n.
+pub fn drag(book: &[u8], n: usize, k: usize, slides: &mut Slides) {
+    // SAFETY: the slices are whole, and the contract has no `requires`.
+    slides.kept = unsafe {
+        bench_drag(
+            slides.kept,
+            book.as_ptr(),
+            book.len(),
+            n,
+            k,
+            slides.mines.as_mut_ptr(),
+            slides.mines.len(),
+            slides.shown.as_mut_ptr(),
+            slides.shown.len(),
+            slides.bits.as_mut_ptr(),
+            slides.bits.len(),
+            slides.work.as_mut_ptr(),
+            slides.work.len(),
+            slides.room.as_mut_ptr(),
+            slides.room.len(),
+        )
+    };
 }

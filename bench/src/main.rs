@@ -7,6 +7,7 @@ mod measure;
 mod opening;
 mod play;
 mod replay;
+mod scrub;
 
 // The oracle's printout, over the original as it is released.
 #[path = "../../oracle/src/board.rs"]
@@ -35,4 +36,5 @@ fn main() {
     opening::rows(way);
     games::rows(way);
     replay::rows(way);
+    scrub::rows(way);
 }

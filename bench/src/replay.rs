@@ -9,10 +9,10 @@ use crate::printout::printout;
 const BOOKS: u64 = 3;
 
 /// The most events that a book holds.
-const MOST: usize = 8_192;
+pub const MOST: usize = 8_192;
 
 /// The book of a recorded game, which is cut off where a book is full.
-fn book(board: &Board, mode: u8, flags: bool, seed: u64) -> Vec<u8> {
+pub fn book(board: &Board, mode: u8, flags: bool, seed: u64) -> Vec<u8> {
     let mut events = recording(&actions(board, mode, flags, &mut Chance(seed)));
     events.truncate(MOST);
     let mines: Vec<usize> = (0..board.cells()).filter(|&cell| board.ours[cell] == -1).collect();

@@ -19,6 +19,7 @@ mod positions;
 mod printout;
 mod random;
 mod sections;
+mod slider;
 mod steps;
 
 use books::Kind;
@@ -34,6 +35,8 @@ const USAGE: &str = "usage:
   oracle answers [--sum]             packed books on standard input: their printouts, or their sums
   oracle noflag-books SEED COUNT     packed books for the no-flag class
   oracle noflag-answers              packed books on standard input: what the class prints of each
+  oracle scrub-words SEED CASE       a book on standard input: K, ROOM and drags for it
+  oracle scrub-told K ROOM N..       a book on standard input: what is told of each drag
   oracle pick NUMBER                 packed books on standard input: the one of this number, from 1
   oracle steps SEED COUNT [START]    packed single steps from positions: lawful or spoiled
   oracle outcomes [--whole]          packed steps on standard input: a line of the outcome of each, or of the whole
@@ -67,6 +70,8 @@ fn run(words: &[&str]) -> Outcome {
         ["answers", "--sum"] => answers(sum),
         ["noflag-books", seed, count] => write_noflag_books(number(seed)?, number(count)?),
         ["noflag-answers"] => answers(noflag::printout),
+        ["scrub-words", seed, case] => write(slider::words(number(seed)?, number(case)?, &input()?).as_bytes()),
+        ["scrub-told", words @ ..] => write(slider::told(&input()?, words)?.as_bytes()),
         ["pick", book] => pick(number(book)?),
         ["steps", seed, count] => write_steps(number(seed)?, number(count)?, Start::Lawful),
         ["steps", seed, count, start] => write_steps(number(seed)?, number(count)?, start_named(start)?),

@@ -16,4 +16,5 @@ pub mod Book
 pub mod Printout
 pub mod Picture
 pub mod Noflag
+pub mod Slides
 pub mod Positions

@@ -1,13 +1,13 @@
 -- The positions that document 01 marks P, and twelve beside them, as one table and one theorem that the checker computes over the definitions; after it
--- the same for the number of safe cells still closed, for positions that are refused, for events that are resolved or played as they are, and for the
--- no-flag class.
+-- the same for the number of safe cells still closed, for positions that are refused, for events that are resolved or played as they are, for the
+-- no-flag class and for the slider.
 -- Open is lc, lr; flag rc, rr. Each row is a game from its fresh start: settings, mine list, events, all that stands at its end, and what each event opened.
 use mathlib.Core.Path.{_≡_, refl}
 use mathlib.Core.Bool.{Bool, true, false, _&&_}
 use mathlib.Core.List.{List, [], _∷_, _++_}
 use Prim.Native.Nat.{ℕ, zero, suc}
 use lib.Dec.{leb, eqb}
-use lib.ListN.{getD, replicate}
+use lib.ListN.{getD, set, replicate}
 use lib.IntN.{ℤ, pos, negsuc}
 use Rattle.rules.specs.declared.Settings.{Settings}
 use Rattle.rules.specs.declared.MouseState.{MouseState}
@@ -26,10 +26,11 @@ use Rattle.rules.specs.Passes.{remainder, allClosed, ripeAt, listed, fla
 use Rattle.rules.specs.Mouse.{mouseTable, nextMouse, moved, bothDown, rulesOk, resolved, flipped}
 use Rattle.rules.specs.Step.{seenAt, leftAt, rightAt, chordAt, chordFrom, playLc, playLr, playRc, playRr, playing, preFlag, readyLc, readyRc, ready, preLeft, preLr, preCell, preRight, preRc, preFlaging, byGame, pointerOf, eventOf, errsPlaying, errsPreFlaging, badPreFlag, eventRefusal, plainOf, refusalAt, playAt, stepAt, stepBy, stepOn, plainCode, plainOn}
 use Rattle.rules.specs.Lawful.{cellLawful, shownLawful, bitsLawful, countsLawful, gameLawful, statesLawful, lawfulRefusal, unopenedIn}
-use Rattle.rules.specs.Calls.{boardsFit, modeOk, settingsRefusal, positionRefusal, positionCheck, positionCheckOf, freshDesk, resolveBy, resolveOf, plays, lastPlay}
-use Rattle.rules.specs.Book.{eventsFrom, minesFrom, minesSection, bookEnds}
+use Rattle.rules.specs.Calls.{boardsFit, workFits, modeOk, settingsRefusal, positionRefusal, positionCheck, positionCheckOf, freshDesk, resolveBy, resolveOf, plays, lastPlay}
+use Rattle.rules.specs.Book.{eventsFrom, minesFrom, minesSection, settingsSection, sectionsOf, bookEnds, bookOf}
 use Rattle.rules.specs.Printout.{nineCounts, twoBv}
 use Rattle.rules.specs.Noflag.{forbidden, classRefusalAt, classStepAt, classStepBy, classStepOn, classSettingsRefusal, classSetupRefusal, classSettingsSection, classSectionsOf, classBookOf, classPlays}
+use Rattle.rules.specs.Slides.{Tape, flowNumber, Slots, Kept, emptied, turn, glide, slideFrom, slideTo, lentFits, roomFits, dragRefusal, dragBy, dragOf}
 
 pub record Row : Type 0 where
   pub name : ℕ
@@ -479,3 +480,64 @@ unfolding wrongSaid same classTable said linesOf classLines classAt classSets cl
     playAt countShown lastPlay boardsFit boardRefusal valuesOk numbersOk numberOk someSafe rulesOk forbidden classRefusalAt classStepAt classStepBy classStepOn classSettingsRefusal classSetupRefusal
     classSettingsSection classSectionsOf classBookOf classPlays eventsFrom minesFrom minesSection bookEnds
 class-positions = refl
+
+-- ---- the slider ------------------------------------------------------------------------------------------------------------------------
+
+-- the number that a drag over a book is answered with, on a board of 1×3 and so many bytes of room
+unfoldable dragged : List ℕ → ℕ → ℕ → ℕ → List ℕ
+dragged s n k long =
+    dragOf s n k (emptied (replicate long 0)) (record { mines = replicate 3 (pos 0); shown = replicate 3 0; bits = 0 ∷ []; work = replicate 32 0 }) .number ∷ []
+
+-- 1×3, mine (0,1), and these events
+recorded : ℕ → List ℕ → List ℕ
+recorded n events = 4 ∷ 1 ∷ 3 ∷ 0 ∷ 0 ∷ 1 ∷ 0 ∷ 0 ∷ 1 ∷ n ∷ 0 ∷ events
+
+worked-book : List ℕ
+worked-book = recorded 6 (open′ 0 0 (flag′ 0 1 (open′ 0 2 [])))
+
+-- a game that only counts its events, and refuses one of them with 33; a room that keeps the counts
+counted : ℕ → Desk
+counted n = desk (withEvents (freshOf (size 1 1 0 false) 1) n) [] []
+
+tape : ℕ → Tape
+tape refused = record { first = counted 0; event = λ e d. pick (eqb e refused) (done 33 d) (done 0 (counted (suc e))) }
+
+slots : ℕ → Slots
+slots most = record {
+  most = most;
+  put = λ j d room. set room j (d .position .events);
+  get = λ j room. counted (getD room j 0);
+  right = λ m d. eqb (d .position .events) m;
+}
+
+-- start, answer, events then and how many are kept, of each of a row of drags over it
+unfoldable slidesOn : Tape → Slots → ℕ → List ℕ → Kept → List ℕ
+slidesOn t s k [] h = []
+slidesOn t s k (n ∷ ns) h =
+    let w = slideTo t s k n h in
+    w .start ∷ flowNumber (w .glided .last) ∷ w .glided .last .desk .position .events ∷ w .glided .kept .count ∷ slidesOn t s k ns (w .glided .kept)
+
+pub slideTable : List Said
+slideTable =
+    -- 70 before 71 before 72; no room at all is none too short; a book's own refusal before all
+    said 1 (dragged worked-book 7 0 59) (70 ∷ [])
+    ∷ said 2 (dragged worked-book 6 0 59) (71 ∷ [])
+    ∷ said 3 (dragged worked-book 6 1 59) (72 ∷ [])
+    ∷ said 4 (dragged worked-book 6 1 60) (0 ∷ [])
+    ∷ said 5 (dragged worked-book 0 1 0) (0 ∷ [])
+    ∷ said 6 (dragged (recorded 6 (open′ 0 0 [])) 7 0 59) (40 ∷ [])
+    -- k 2 and room for two, to and fro: what a call kept is there for the next one
+    ∷ said 7 (slidesOn (tape 100) (slots 2) 2 (1 ∷ 2 ∷ 2 ∷ 6 ∷ 6 ∷ 3 ∷ 0 ∷ []) (emptied (9 ∷ 9 ∷ [])))
+    (0 ∷ 0 ∷ 1 ∷ 0 ∷ 0 ∷ 0 ∷ 2 ∷ 1 ∷ 2 ∷ 0 ∷ 2 ∷ 1 ∷ 2 ∷ 0 ∷ 6 ∷ 2 ∷ 4 ∷ 0 ∷ 6 ∷ 2 ∷ 2 ∷ 0 ∷ 3 ∷ 2 ∷ 0 ∷ 0 ∷ 0 ∷ 2 ∷ [])
+    -- the third event is refused: nothing is kept there or past it
+    ∷ said 8 (slidesOn (tape 2) (slots 9) 1 (4 ∷ 4 ∷ 3 ∷ 2 ∷ 1 ∷ []) (emptied (replicate 9 0)))
+    (0 ∷ 33 ∷ 2 ∷ 2 ∷ 2 ∷ 33 ∷ 2 ∷ 2 ∷ 2 ∷ 33 ∷ 2 ∷ 2 ∷ 2 ∷ 0 ∷ 2 ∷ 2 ∷ 1 ∷ 0 ∷ 1 ∷ 2 ∷ [])
+    -- a spoiled room, and a slider that says more than the room can hold: from the start, with nothing kept
+    ∷ said 9 (slidesOn (tape 100) (slots 2) 2 (3 ∷ 3 ∷ []) (record { count = 1; room = 7 ∷ 9 ∷ [] })) (0 ∷ 0 ∷ 3 ∷ 1 ∷ 2 ∷ 0 ∷ 3 ∷ 1 ∷ [])
+    ∷ said 10 (slidesOn (tape 100) (slots 2) 2 (1 ∷ []) (record { count = 3; room = 2 ∷ 4 ∷ [] })) (0 ∷ 0 ∷ 1 ∷ 0 ∷ [])
+    ∷ []
+
+pub slide-positions : wrongSaid slideTable ≡ []
+unfolding wrongSaid same slideTable said dragged recorded worked-book counted tape slots slidesOn size open′ flag′ event count every mineOk boardsFit workFits rulesOk modeOk sizeOk
+    settingsSection sectionsOf bookOf eventsFrom minesFrom minesSection bookEnds turn glide slideFrom slideTo lentFits roomFits dragRefusal dragBy dragOf
+slide-positions = refl
