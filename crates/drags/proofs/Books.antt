@@ -110,7 +110,7 @@ drag-before s n k h l =
 -- ---- any sequence of calls -------------------------------------------------------------------------------------------------------------
 
 module _ (s : List ℕ) where
-  book-ruled : bookOf s .number ≡ 0 → rulesOk (bookOf s .settings .rules) ≡ true
+  pub book-ruled : bookOf s .number ≡ 0 → rulesOk (bookOf s .settings .rules) ≡ true
   book-ruled z = let l = accepted-laid s z in subst⁻¹ (λ (x : Book). rulesOk (x .settings .rules) ≡ true) (laid-read s l) (l .settings .rules)
 
   pub book-records : recordsIn (eventsOf s (bookOf s)) ≡ bookOf s .events

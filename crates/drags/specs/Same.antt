@@ -4,6 +4,7 @@ use mathlib.Core.List.{List}
 use Prim.Native.Nat.{ℕ, _*_, _≤_}
 use lib.ListN.{take}
 use Rattle.rules.specs.Clicks.{Play, desk}
+use Rattle.rules.specs.Calls.{Outcome, flowOf}
 use Rattle.rules.specs.Book.{bookOf, eventsOf}
 use Rattle.rules.specs.Printout.{bookBoard, bookDesk}
 use Rattle.flows.specs.Runs.{flowOn}
@@ -23,3 +24,14 @@ pub record Slid (s : List ℕ) (k n : ℕ) (h : Kept) (o : Dragged) : Type 0 whe
   pub kept : slot ≤ h .count
   pub before : slot * k ≤ n
   pub largest : (j : ℕ) → j ≤ h .count → j * k ≤ n → j ≤ slot
+
+-- step_flow of the first n events, from the fresh desk, with some work
+abbrev pub flowedTo : List ℕ → ℕ → List ℕ → Outcome
+flowedTo s n work = flowOf (bookBoard s (bookOf s)) (take (3 * n) (eventsOf s (bookOf s))) (bookDesk s (bookOf s)) work
+
+-- a drag answers what it answers, and leaves its position, shown board and bits
+pub record AsFlowed (s : List ℕ) (n : ℕ) (work : List ℕ) (o : Dragged) : Type 0 where
+  pub number : o .answer ≡ flowedTo s n work .answer .number
+  pub position : o .position ≡ flowedTo s n work .answer .position
+  pub shown : o .lent .shown ≡ flowedTo s n work .shown
+  pub bits : o .lent .bits ≡ flowedTo s n work .bits

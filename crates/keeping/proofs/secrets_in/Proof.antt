@@ -1,24 +1,18 @@
+-- `keeping::secrets_in` meets its contract.
 use Rattle.keeping.proofs.Reading.{secrets-read}
 use borrow.Author.Needs.{needs}
 use Rattle.keeping.proofs.secrets_in.Statement.{statement}
 use Rattle.keeping.proofs.secrets_in.Tie as tie
-use Rattle.keeping.proofs.secrets_in.Reads as reads
-use Rattle.keeping.proofs.secrets_in.Lts as lts
-use Rattle.keeping.proofs.four_at.Reads as four-at-reads
 
--- src/lib.rt:198:14
 four-at-requires : tie.Need-four-at-requires
 four-at-requires c κs = search needs
 
--- src/lib.rt:199:22
 four-at-requires-2 : tie.Need-four-at-requires-2
 four-at-requires-2 c κs = search needs
 
--- src/lib.rt:200:23
 four-at-requires-3 : tie.Need-four-at-requires-3
 four-at-requires-3 c κs = search needs
 
--- src/lib.rt:193:1
 returns : tie.Need-returns
 returns c = secrets-read (c .before .before .before .before .args .s .now) (c .before .before .four-at .ensures) (c .before .four-at2 .ensures) (c .four-at3 .ensures)
 

@@ -1,81 +1,60 @@
+-- `keeping::take_desk` meets its contract.
 use Rattle.keeping.proofs.Slots.{desk-taken}
 use borrow.Author.Needs.{needs}
 use Rattle.keeping.proofs.take_desk.Statement.{statement}
 use Rattle.keeping.proofs.take_desk.Tie as tie
-use Rattle.keeping.proofs.take_desk.Reads as reads
-use Rattle.keeping.proofs.take_desk.Lts as lts
-use Rattle.keeping.proofs.position_in.Reads as position-in-reads
-use Rattle.writing.proofs.put_bytes.Reads as put-bytes-reads
 
--- src/lib.rt:231:17
 add-cells : tie.Need-add-cells
 add-cells c = search needs
 
--- src/lib.rt:232:17
 add-first : tie.Need-add-first
 add-first c = search needs
 
--- src/lib.rt:233:16
 add-last : tie.Need-add-last
 add-last c = search needs
 
--- src/lib.rt:234:40
 sub-put-bytes : tie.Need-sub-put-bytes
 sub-put-bytes c = search needs
 
--- src/lib.rt:234:40
 part-put-bytes-start : tie.Need-part-put-bytes-start
 part-put-bytes-start c = search needs
 
--- src/lib.rt:234:40
 part-put-bytes-end : tie.Need-part-put-bytes-end
 part-put-bytes-end c = search needs
 
--- src/lib.rt:234:5
 put-bytes-requires : tie.Need-put-bytes-requires
 put-bytes-requires c κs = search needs
 
--- src/lib.rt:235:39
 sub-put-bytes-2 : tie.Need-sub-put-bytes-2
 sub-put-bytes-2 c = search needs
 
--- src/lib.rt:235:39
 part-put-bytes-start-2 : tie.Need-part-put-bytes-start-2
 part-put-bytes-start-2 c = search needs
 
--- src/lib.rt:235:39
 part-put-bytes-end-2 : tie.Need-part-put-bytes-end-2
 part-put-bytes-end-2 c = search needs
 
--- src/lib.rt:235:5
 put-bytes-requires-2 : tie.Need-put-bytes-requires-2
 put-bytes-requires-2 c κs = search needs
 
--- src/lib.rt:236:17
 sub-position-in : tie.Need-sub-position-in
 sub-position-in c = search needs
 
--- src/lib.rt:236:17
 part-position-in-start : tie.Need-part-position-in-start
 part-position-in-start c = search needs
 
--- src/lib.rt:236:17
 part-position-in-end : tie.Need-part-position-in-end
 part-position-in-end c = search needs
 
--- src/lib.rt:236:5
 position-in-requires : tie.Need-position-in-requires
 position-in-requires c κs = search needs
 
--- src/lib.rt:227:1
 same-length : tie.Need-same-length
 same-length c = search needs
 
--- src/lib.rt:227:1
 same-length-2 : tie.Need-same-length-2
 same-length-2 c = search needs
 
--- src/lib.rt:227:1
 returns : tie.Need-returns
 returns c = desk-taken (c .before .before .before .before .before .before .before .before .before .before .before .before .before .before .before .args .room .now) (c .before .before .before .before .before .before .before .before .before .before .before .before .before .before .before .args .shown .now) (c .before .before .before .before .before .before .before .before .before .before .before .before .before .before .before .args .bits .now) (c .before .before .before .before .before .before .before .before .before .before .before .before .before .before .before .args .at) (c .before .before .before .before .before .before .before .before .before .before .before .before .before .before .before .pre) (c .position-in .ensures) (c .before .before .before .before .before .before .before .before .before .put-bytes .ensures) (c .before .before .before .before .put-bytes2 .ensures)
 

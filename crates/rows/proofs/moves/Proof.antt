@@ -1,3 +1,4 @@
+-- `rows::moves` meets its contract.
 use mathlib.Core.Path.{_≡_, sym, _∙_}
 use Prim.Native.Nat.{_+_, _-_, _≤_}
 use native.Mathlib.Omega.{arith}
@@ -7,9 +8,6 @@ use Rattle.rows.specs.Rows.{Moves}
 use Rattle.rows.proofs.Runs.{moves-none, moves-more}
 use Rattle.rows.proofs.moves.Statement.{statement}
 use Rattle.rows.proofs.moves.Tie as tie
-use Rattle.rows.proofs.moves.Reads as reads
-use Rattle.rows.proofs.moves.Lts as lts
-use Rattle.rows.proofs.is_move.Reads as is-move-reads
 
 abbrev Inv-loop : tie.InvT-loop
 Inv-loop s section from left most e₀ n₀ e n = (e ≡ from + n) × Moves s section from n × (n ≤ left) × (n ≤ most)
@@ -17,43 +15,33 @@ Inv-loop s section from left most e₀ n₀ e n = (e ≡ from + n) × Moves s se
 abbrev μ-loop : tie.MeasureT-loop
 μ-loop s section from left most e₀ n₀ e n = most - n
 
--- src/lib.rt:76:5
 loop-holds : tie.Need-loop-holds Inv-loop μ-loop
 loop-holds c = (omega arith, moves-none _ _ _, omega arith, omega arith)
 
--- src/lib.rt:77:12
 add-if1 : tie.Need-add-if1 Inv-loop μ-loop
 add-if1 c = let p = (c .before .before .before .pre) in let g = (c .before .before .before .good) in omega (arith, g)
 
--- src/lib.rt:78:13
 returns : tie.Need-returns Inv-loop μ-loop
 returns c = (c .before .before .loop .inv .1, (c .before .before .loop .inv .2, c .before .before .loop .inv .3))
 
--- src/lib.rt:80:13
 is-move-requires : tie.Need-is-move-requires Inv-loop μ-loop
 is-move-requires c κs = search needs
 
--- src/lib.rt:81:13
 returns-2 : tie.Need-returns-2 Inv-loop μ-loop
 returns-2 c = (c .before .before .before .before .loop .inv .1, (c .before .before .before .before .loop .inv .2, c .before .before .before .before .loop .inv .3))
 
--- src/lib.rt:83:9
 add-e : tie.Need-add-e Inv-loop μ-loop
 add-e c = let p = (c .before .before .before .before .before .before .pre) in let g = (c .before .before .before .before .before .before .good) in let t = c .before .before .if1 .left in omega (arith, g)
 
--- src/lib.rt:84:9
 add-n : tie.Need-add-n Inv-loop μ-loop
 add-n c = let t = c .before .before .before .loop-test .taken in omega (arith, c .before .before .before .before .before .before .fits .most)
 
--- src/lib.rt:76:5
 loop-less : tie.Need-loop-less Inv-loop μ-loop
 loop-less c = let t = c .before .before .before .loop-test .taken in omega arith
 
--- src/lib.rt:76:5
 loop-again : tie.Need-loop-again Inv-loop μ-loop
 loop-again c = let i = c .before .before .before .before .loop .inv .0 in let t = c .before .before .before .loop-test .taken in let u = c .before .before .if1 .left in (omega arith, moves-more _ _ _ _ _ (c .before .before .before .before .loop .inv .0) (c .before .before .before .before .loop .inv .1) (sym (c .before .is-move .ensures) ∙ not-false _ (c .if2 .left)), omega arith, omega arith)
 
--- src/lib.rt:70:1
 returns-3 : tie.Need-returns-3 Inv-loop μ-loop
 returns-3 c = (c .before .loop .inv .1, (c .before .loop .inv .2, c .before .loop .inv .3))
 

@@ -1,42 +1,31 @@
+-- `scrub::drag_on` meets its contract.
 use native.Mathlib.Omega.{arith}
 use Rattle.scrub.proofs.Telling.{told-of}
 use borrow.Author.Needs.{needs}
 use Rattle.scrub.proofs.drag_on.Statement.{statement}
 use Rattle.scrub.proofs.drag_on.Tie as tie
-use Rattle.scrub.proofs.drag_on.Reads as reads
-use Rattle.scrub.proofs.drag_on.Lts as lts
-use Rattle.scrub.proofs.tell.Reads as tell-reads
-use Rattle.slider.proofs.drag_to.Reads as drag-to-reads
 
--- src/main.rt:169:9
 drag-to-requires : tie.Need-drag-to-requires
 drag-to-requires c κs = search needs
 
--- src/main.rt:181:5
 tell-requires : tie.Need-tell-requires
 tell-requires c κs = let l = c .before .before .before .before .before .before .before .before .before .before .before .drag-to .kept .1 .1 .1 .1 .1 .0 in let p = c .before .before .before .before .before .before .before .before .before .before .before .before .before .before .before .before .before .before .before .before .before .before .pre .1 in let x = c .before .before .before .before .before .before .before .before .before .before .before .before .before .before .before .before .before .before .before .before .before .before .fits .n in told-of (c .before .before .before .before .before .before .before .before .before .before .before .before .before .before .before .before .before .before .before .before .before .before .args .s .now) (c .before .before .before .before .before .before .before .before .before .before .before .before .before .before .before .before .before .before .before .before .before .before .args .b) (c .before .before .before .before .before .before .before .before .before .before .before .before .before .before .before .before .before .before .before .before .before .before .pre .0 .0) (c .before .before .before .before .before .before .before .before .before .before .before .before .before .before .before .before .before .before .before .before .before .before .pre .0 .1) _ _ _ _ _ _ _ _ (c .before .before .before .before .before .before .before .before .before .before .before .drag-to .result) _ _ _ _ _ (c .before .before .before .before .before .before .before .before .before .before .before .drag-to .ensures) (omega arith) _ (omega arith)
 
--- src/main.rt:154:1
 same-length : tie.Need-same-length
 same-length c = search needs
 
--- src/main.rt:154:1
 same-length-2 : tie.Need-same-length-2
 same-length-2 c = search needs
 
--- src/main.rt:154:1
 same-length-3 : tie.Need-same-length-3
 same-length-3 c = search needs
 
--- src/main.rt:154:1
 same-length-4 : tie.Need-same-length-4
 same-length-4 c = search needs
 
--- src/main.rt:154:1
 same-length-5 : tie.Need-same-length-5
 same-length-5 c = search needs
 
--- src/main.rt:154:1
 returns : tie.Need-returns
 returns c = search needs
 

@@ -1,3 +1,4 @@
+-- `scrub::go` meets its contract.
 use mathlib.Core.Path.{sym}
 use native.Mathlib.Omega.{arith}
 use lib.Seq.{length-take-le}
@@ -5,76 +6,52 @@ use Rattle.scrub.proofs.Telling.{book-sized}
 use borrow.Author.Needs.{needs}
 use Rattle.scrub.proofs.go.Statement.{statement}
 use Rattle.scrub.proofs.go.Tie as tie
-use Rattle.scrub.proofs.go.Reads as reads
-use Rattle.scrub.proofs.go.Lts as lts
-use Rattle.boards.proofs.cell_count.Reads as cell-count-reads
-use Rattle.player.proofs.flag_bits.Reads as flag-bits-reads
-use Rattle.player.proofs.mine_board.Reads as mine-board-reads
-use Rattle.player.proofs.shown_board.Reads as shown-board-reads
-use Rattle.player.proofs.work_room.Reads as work-room-reads
-use Rattle.scrub.proofs.drag_on.Reads as drag-on-reads
 
--- src/main.rt:189:21
 mine-board-requires : tie.Need-mine-board-requires
 mine-board-requires c κs = search needs
 
--- src/main.rt:190:21
 shown-board-requires : tie.Need-shown-board-requires
 shown-board-requires c κs = search needs
 
--- src/main.rt:191:20
 flag-bits-requires : tie.Need-flag-bits-requires
 flag-bits-requires c κs = search needs
 
--- src/main.rt:192:20
 work-room-requires : tie.Need-work-room-requires
 work-room-requires c κs = search needs
 
--- src/main.rt:193:9
 cell-count-requires : tie.Need-cell-count-requires
 cell-count-requires c κs = search needs
 
--- src/main.rt:194:18
 add-bytes : tie.Need-add-bytes
 add-bytes c = search needs
 
--- src/main.rt:201:9
 array-borrow-prefix-mines : tie.Need-array-borrow-prefix-mines
 array-borrow-prefix-mines c = let f = book-sized (c .before .before .before .before .before .before .before .args .s .now) (c .before .before .before .before .before .before .before .args .b) (c .before .before .before .before .before .before .before .pre .0) (c .before .before .before .before .before .before .before .pre .1) .cells in let e = c .cell-count .ensures .0 in let m = c .before .before .before .before .mine-board .ensures in omega arith
 
--- src/main.rt:201:9
 slice-aggregate-drag-on : tie.Need-slice-aggregate-drag-on
 slice-aggregate-drag-on c = let f = book-sized (c .before .before .before .before .before .before .before .before .args .s .now) (c .before .before .before .before .before .before .before .before .args .b) (c .before .before .before .before .before .before .before .before .pre .0) (c .before .before .before .before .before .before .before .before .pre .1) .cells in let e = c .before .cell-count .ensures .0 in let m = c .before .before .before .before .before .mine-board .ensures in sym (length-take-le _ _ (omega arith))
 
--- src/main.rt:202:9
 array-borrow-prefix-shown : tie.Need-array-borrow-prefix-shown
 array-borrow-prefix-shown c = let f = book-sized (c .before .before .before .before .before .before .before .before .args .s .now) (c .before .before .before .before .before .before .before .before .args .b) (c .before .before .before .before .before .before .before .before .pre .0) (c .before .before .before .before .before .before .before .before .pre .1) .cells in let e = c .before .cell-count .ensures .0 in let m = c .before .before .before .before .shown-board .ensures in omega arith
 
--- src/main.rt:202:9
 slice-aggregate-drag-on-2 : tie.Need-slice-aggregate-drag-on-2
 slice-aggregate-drag-on-2 c = let f = book-sized (c .before .before .before .before .before .before .before .before .before .args .s .now) (c .before .before .before .before .before .before .before .before .before .args .b) (c .before .before .before .before .before .before .before .before .before .pre .0) (c .before .before .before .before .before .before .before .before .before .pre .1) .cells in let e = c .before .before .cell-count .ensures .0 in let m = c .before .before .before .before .before .shown-board .ensures in sym (length-take-le _ _ (omega arith))
 
--- src/main.rt:203:9
 array-borrow-prefix-bits : tie.Need-array-borrow-prefix-bits
 array-borrow-prefix-bits c = let f = book-sized (c .before .before .before .before .before .before .before .before .before .args .s .now) (c .before .before .before .before .before .before .before .before .before .args .b) (c .before .before .before .before .before .before .before .before .before .pre .0) (c .before .before .before .before .before .before .before .before .before .pre .1) .cells in let e = c .before .before .cell-count .ensures .0 in let m = c .before .before .before .before .flag-bits .ensures in omega arith
 
--- src/main.rt:203:9
 slice-aggregate-drag-on-3 : tie.Need-slice-aggregate-drag-on-3
 slice-aggregate-drag-on-3 c = let f = book-sized (c .before .before .before .before .before .before .before .before .before .before .args .s .now) (c .before .before .before .before .before .before .before .before .before .before .args .b) (c .before .before .before .before .before .before .before .before .before .before .pre .0) (c .before .before .before .before .before .before .before .before .before .before .pre .1) .cells in let e = c .before .before .before .cell-count .ensures .0 in let m = c .before .before .before .before .before .flag-bits .ensures in sym (length-take-le _ _ (omega arith))
 
--- src/main.rt:204:9
 slice-aggregate-drag-on-4 : tie.Need-slice-aggregate-drag-on-4
 slice-aggregate-drag-on-4 c = search needs
 
--- src/main.rt:195:5
 drag-on-requires : tie.Need-drag-on-requires
 drag-on-requires c κs = ((c .before .before .before .before .before .before .before .before .before .before .before .before .pre), (let f = book-sized (c .before .before .before .before .before .before .before .before .before .before .before .before .args .s .now) (c .before .before .before .before .before .before .before .before .before .before .before .before .args .b) (c .before .before .before .before .before .before .before .before .before .before .before .before .pre .0) (c .before .before .before .before .before .before .before .before .before .before .before .before .pre .1) .cells in let e = c .before .before .before .before .before .cell-count .ensures .0 in let m = c .before .before .before .before .before .before .before .before .shown-board .ensures in let l = length-take-le (c .before .before .before .before .before .cell-count .result) (c .before .before .before .before .before .before .before .before .shown-board .result) (omega arith) in omega arith))
 
--- src/main.rt:186:1
 same-length : tie.Need-same-length
 same-length c = search needs
 
--- src/main.rt:186:1
 returns : tie.Need-returns
 returns c = search needs
 

@@ -1,12 +1,10 @@
+-- `scrub::room_bytes` meets its contract.
 use mathlib.Core.Path.{sym}
 use Prim.Native.Nat.{ℕ}
 use lib.ListN.{length-replicate}
 use Rattle.scrub.proofs.room_bytes.Statement.{statement}
 use Rattle.scrub.proofs.room_bytes.Tie as tie
-use Rattle.scrub.proofs.room_bytes.Reads as reads
-use Rattle.scrub.proofs.room_bytes.Lts as lts
 
--- src/main.rt:147:1
 returns : tie.Need-returns
 returns c = sym (length-replicate {0} {A = ℕ} 1048576 0)
 

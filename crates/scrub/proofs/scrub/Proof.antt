@@ -1,3 +1,4 @@
+-- `scrub::scrub` meets its contract.
 use mathlib.Core.Path.{sym}
 use native.Mathlib.Omega.{arith}
 use lib.Seq.{length-take-le}
@@ -5,90 +6,61 @@ use Rattle.scrub.proofs.Telling.{opened-book, opened-place}
 use borrow.Author.Needs.{needs}
 use Rattle.scrub.proofs.scrub.Statement.{statement}
 use Rattle.scrub.proofs.scrub.Tie as tie
-use Rattle.scrub.proofs.scrub.Reads as reads
-use Rattle.scrub.proofs.scrub.Lts as lts
-use Rattle.book.proofs.read_book.Reads as read-book-reads
-use Rattle.scrub.proofs.argument.Reads as argument-reads
-use Rattle.scrub.proofs.at_most.Reads as at-most-reads
-use Rattle.scrub.proofs.refuse.Reads as refuse-reads
-use Rattle.scrub.proofs.room_bytes.Reads as room-bytes-reads
-use Rattle.scrub.proofs.usage.Reads as usage-reads
-use Rattle.scrub.proofs.walk.Reads as walk-reads
-use Rattle.slider.proofs.open.Reads as open-reads
 
--- src/main.rt:291:9
 open-requires : tie.Need-open-requires
 open-requires c κs = search needs
 
--- src/main.rt:293:9
 refuse-requires : tie.Need-refuse-requires
 refuse-requires c κs = opened-place (c .before .before .before .before .args .s .now) (c .before .before .«open» .result) (c .before .before .«open» .ensures) (c .before .before .before .before .pre)
 
--- src/main.rt:294:9
 returns : tie.Need-returns
 returns c = search needs
 
--- src/main.rt:296:9
 read-book-requires : tie.Need-read-book-requires
 read-book-requires c κs = search needs
 
--- src/main.rt:297:27
 argument-requires : tie.Need-argument-requires
 argument-requires c κs = search needs
 
--- src/main.rt:297:22
 enum-known-k : tie.Need-enum-known-k
 enum-known-k c = search needs
 
--- src/main.rt:298:9
 usage-requires : tie.Need-usage-requires
 usage-requires c κs = search needs
 
--- src/main.rt:299:9
 returns-2 : tie.Need-returns-2
 returns-2 c = search needs
 
--- src/main.rt:301:30
 argument-requires-2 : tie.Need-argument-requires-2
 argument-requires-2 c κs = search needs
 
--- src/main.rt:301:22
 enum-known-long : tie.Need-enum-known-long
 enum-known-long c = search needs
 
--- src/main.rt:302:9
 usage-requires-2 : tie.Need-usage-requires-2
 usage-requires-2 c κs = search needs
 
--- src/main.rt:303:9
 returns-3 : tie.Need-returns-3
 returns-3 c = search needs
 
--- src/main.rt:305:20
 room-bytes-requires : tie.Need-room-bytes-requires
 room-bytes-requires c κs = search needs
 
--- src/main.rt:306:24
 cast-at-most : tie.Need-cast-at-most
 cast-at-most c = search needs
 
--- src/main.rt:306:9
 at-most-requires : tie.Need-at-most-requires
 at-most-requires c κs = search needs
 
--- src/main.rt:308:27
 array-borrow-prefix-room : tie.Need-array-borrow-prefix-room
 array-borrow-prefix-room c = search needs
 
--- src/main.rt:308:27
 slice-aggregate-walk : tie.Need-slice-aggregate-walk
 slice-aggregate-walk c = let a = c .before .before .at-most .ensures in let r = c .before .before .before .room-bytes .ensures in sym (length-take-le _ _ (omega arith))
 
--- src/main.rt:308:5
 walk-requires : tie.Need-walk-requires
 walk-requires c κs = (c .before .before .before .before .before .before .before .before .before .before .before .before .read-book .ensures, opened-book (c .before .before .before .before .before .before .before .before .before .before .before .before .before .before .before .before .before .args .s .now) (c .before .before .before .before .before .before .before .before .before .before .before .before .before .before .before .«open» .result) (c .before .before .before .before .before .before .before .before .before .before .before .before .before .before .before .«open» .ensures) (c .before .before .before .before .before .before .before .before .before .before .before .before .before .if1 .left) (c .before .before .before .before .before .before .before .before .before .before .before .before .read-book .result) (c .before .before .before .before .before .before .before .before .before .before .before .before .read-book .ensures))
 
--- src/main.rt:288:1
 returns-4 : tie.Need-returns-4
 returns-4 c = search needs
 

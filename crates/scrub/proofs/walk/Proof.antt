@@ -1,3 +1,4 @@
+-- `scrub::walk` meets its contract.
 use mathlib.Core.Path.{_≡_, refl, _∙_}
 use Prim.Native.Nat.{_-_}
 use lib.ListN.{length}
@@ -5,10 +6,6 @@ use native.Mathlib.Omega.{arith}
 use borrow.Author.Needs.{needs}
 use Rattle.scrub.proofs.walk.Statement.{statement}
 use Rattle.scrub.proofs.walk.Tie as tie
-use Rattle.scrub.proofs.walk.Reads as reads
-use Rattle.scrub.proofs.walk.Lts as lts
-use Rattle.os.proofs.arg_count.Reads as arg-count-reads
-use Rattle.scrub.proofs.take_word.Reads as take-word-reads
 
 abbrev Inv-loop : tie.InvT-loop
 Inv-loop s b k room₀ count t₀ i₀ room t i = length room ≡ length room₀
@@ -16,43 +13,33 @@ Inv-loop s b k room₀ count t₀ i₀ room t i = length room ≡ length room₀
 abbrev μ-loop : tie.MeasureT-loop
 μ-loop s b k room₀ count t₀ i₀ room t i = count - i
 
--- src/main.rt:249:9
 arg-count-requires : tie.Need-arg-count-requires Inv-loop μ-loop
 arg-count-requires c κs = search needs
 
--- src/main.rt:255:5
 loop-holds : tie.Need-loop-holds Inv-loop μ-loop
 loop-holds c = refl
 
--- src/main.rt:257:9
 take-word-requires : tie.Need-take-word-requires Inv-loop μ-loop
 take-word-requires c κs = (c .before .before .before .before .before .before .before .pre)
 
--- src/main.rt:259:13
 same-length : tie.Need-same-length Inv-loop μ-loop
 same-length c = c .before .before .before .before .take-word .kept .1 .1 .1 .1 .1 .0 ∙ c .before .before .before .before .before .before .before .before .loop .inv
 
--- src/main.rt:259:13
 returns : tie.Need-returns Inv-loop μ-loop
 returns c = search needs
 
--- src/main.rt:261:9
 add-i : tie.Need-add-i Inv-loop μ-loop
 add-i c = search needs
 
--- src/main.rt:255:5
 loop-less : tie.Need-loop-less Inv-loop μ-loop
 loop-less c = let t = c .before .before .before .before .before .before .before .loop-test .taken in omega arith
 
--- src/main.rt:255:5
 loop-again : tie.Need-loop-again Inv-loop μ-loop
 loop-again c = c .before .before .before .before .take-word .kept .1 .1 .1 .1 .1 .0 ∙ c .before .before .before .before .before .before .before .before .loop .inv
 
--- src/main.rt:246:1
 same-length-2 : tie.Need-same-length-2 Inv-loop μ-loop
 same-length-2 c = c .before .loop .inv
 
--- src/main.rt:246:1
 returns-2 : tie.Need-returns-2 Inv-loop μ-loop
 returns-2 c = search needs
 

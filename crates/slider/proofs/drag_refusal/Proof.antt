@@ -1,41 +1,30 @@
+-- `slider::drag_refusal` meets its contract.
 use Rattle.slider.proofs.Dragging.{own-refusal, refusal-21, refusal-70, refusal-71, refusal-72, refusal-none}
 use borrow.Author.Needs.{needs}
 use Rattle.slider.proofs.drag_refusal.Statement.{statement}
 use Rattle.slider.proofs.drag_refusal.Tie as tie
-use Rattle.slider.proofs.drag_refusal.Reads as reads
-use Rattle.slider.proofs.drag_refusal.Lts as lts
-use Rattle.slider.proofs.lent_fits.Reads as lent-fits-reads
-use Rattle.slider.proofs.room_fits.Reads as room-fits-reads
 
--- src/lib.rt:92:9
 returns : tie.Need-returns
 returns c = own-refusal (c .before .before .before .before .before .args .b) (c .before .before .before .before .before .args .n) (c .before .before .before .before .before .args .k) (c .before .before .before .before .before .args .room) _ (c .if1 .taken)
 
--- src/lib.rt:95:9
 lent-fits-requires : tie.Need-lent-fits-requires
 lent-fits-requires c κs = search needs
 
--- src/lib.rt:96:9
 returns-2 : tie.Need-returns-2
 returns-2 c = refusal-21 (c .before .before .before .before .before .before .before .before .args .b) (c .before .before .before .before .before .before .before .before .args .n) (c .before .before .before .before .before .before .before .before .args .k) (c .before .before .before .before .before .before .before .before .args .room) _ (c .before .before .before .if1 .left) (c .before .lent-fits .ensures) (c .if2 .taken)
 
--- src/lib.rt:99:9
 returns-3 : tie.Need-returns-3
 returns-3 c = refusal-70 (c .before .before .before .before .before .before .before .before .before .before .args .b) (c .before .before .before .before .before .before .before .before .before .before .args .n) (c .before .before .before .before .before .before .before .before .before .before .args .k) (c .before .before .before .before .before .before .before .before .before .before .args .room) _ (c .before .before .before .before .before .if1 .left) (c .before .before .before .lent-fits .ensures) (c .before .before .if2 .left) (c .if3 .taken)
 
--- src/lib.rt:102:9
 returns-4 : tie.Need-returns-4
 returns-4 c = refusal-71 (c .before .before .before .before .before .before .before .before .before .before .before .args .b) (c .before .before .before .before .before .before .before .before .before .before .before .args .n) (c .before .before .before .before .before .before .before .before .before .before .before .args .k) (c .before .before .before .before .before .before .before .before .before .before .before .args .room) _ (c .before .before .before .before .before .before .if1 .left) (c .before .before .before .before .lent-fits .ensures) (c .before .before .before .if2 .left) (c .before .if3 .left) (c .if4 .taken)
 
--- src/lib.rt:104:9
 room-fits-requires : tie.Need-room-fits-requires
 room-fits-requires c κs = search needs
 
--- src/lib.rt:105:9
 returns-5 : tie.Need-returns-5
 returns-5 c = refusal-72 (c .before .before .before .before .before .before .before .before .before .before .before .before .before .args .b) (c .before .before .before .before .before .before .before .before .before .before .before .before .before .args .n) (c .before .before .before .before .before .before .before .before .before .before .before .before .before .args .k) (c .before .before .before .before .before .before .before .before .before .before .before .before .before .args .room) _ (c .before .before .before .before .before .before .before .before .if1 .left) (c .before .before .before .before .before .before .lent-fits .ensures) (c .before .before .before .before .before .if2 .left) (c .before .before .before .if3 .left) (c .before .before .if4 .left) (c .before .room-fits .ensures) (c .if5 .taken)
 
--- src/lib.rt:79:1
 returns-6 : tie.Need-returns-6
 returns-6 c = refusal-none (c .before .before .before .before .before .before .before .before .before .before .before .before .before .args .b) (c .before .before .before .before .before .before .before .before .before .before .before .before .before .args .n) (c .before .before .before .before .before .before .before .before .before .before .before .before .before .args .k) (c .before .before .before .before .before .before .before .before .before .before .before .before .before .args .room) _ (c .before .before .before .before .before .before .before .before .if1 .left) (c .before .before .before .before .before .before .lent-fits .ensures) (c .before .before .before .before .before .if2 .left) (c .before .before .before .if3 .left) (c .before .before .if4 .left) (c .before .room-fits .ensures) (c .if5 .left)
 

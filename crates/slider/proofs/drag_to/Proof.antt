@@ -1,72 +1,52 @@
+-- `slider::drag_to` meets its contract.
 use mathlib.Core.Path.{_∙_}
 use Rattle.slider.proofs.Dragging.{lent-fit, call-refused, call-accepted, call-dragged}
 use borrow.Author.Needs.{needs}
 use Rattle.slider.proofs.drag_to.Statement.{statement}
 use Rattle.slider.proofs.drag_to.Tie as tie
-use Rattle.slider.proofs.drag_to.Reads as reads
-use Rattle.slider.proofs.drag_to.Lts as lts
-use Rattle.book.proofs.read_book.Reads as read-book-reads
-use Rattle.slider.proofs.drag_on.Reads as drag-on-reads
-use Rattle.slider.proofs.drag_refusal.Reads as drag-refusal-reads
-use Rattle.slider.proofs.refused.Reads as refused-reads
 
--- src/lib.rt:198:9
 read-book-requires : tie.Need-read-book-requires
 read-book-requires c κs = search needs
 
--- src/lib.rt:199:9
 drag-refusal-requires : tie.Need-drag-refusal-requires
 drag-refusal-requires c κs = search needs
 
--- src/lib.rt:201:9
 refused-requires : tie.Need-refused-requires
 refused-requires c κs = search needs
 
--- src/lib.rt:201:9
 same-length : tie.Need-same-length
 same-length c = search needs
 
--- src/lib.rt:201:9
 same-length-2 : tie.Need-same-length-2
 same-length-2 c = search needs
 
--- src/lib.rt:201:9
 same-length-3 : tie.Need-same-length-3
 same-length-3 c = search needs
 
--- src/lib.rt:201:9
 same-length-4 : tie.Need-same-length-4
 same-length-4 c = search needs
 
--- src/lib.rt:201:9
 returns : tie.Need-returns
 returns c = c .refused .ensures _ _ _ _ _ ∙ call-refused (c .before .before .before .before .before .before .before .before .before .before .before .before .before .args .s .now) (c .before .before .before .before .before .before .before .before .before .before .before .before .before .args .n) (c .before .before .before .before .before .before .before .before .before .before .before .before .before .args .k) (c .before .before .before .before .before .before .before .before .before .before .before .before .before .args .slider .kept) (c .before .before .before .before .before .before .before .before .before .before .before .before .before .args .mines .now) (c .before .before .before .before .before .before .before .before .before .before .before .before .before .args .shown .now) (c .before .before .before .before .before .before .before .before .before .before .before .before .before .args .bits .now) (c .before .before .before .before .before .before .before .before .before .before .before .before .before .args .work .now) (c .before .before .before .before .before .before .before .before .before .before .before .before .before .args .room .now) (c .before .before .before .before .before .before .before .read-book .result) (c .before .before .before .before .before .before .before .read-book .ensures) (c .before .before .drag-refusal .ensures) (c .before .if1 .taken)
 
--- src/lib.rt:203:5
 drag-on-requires : tie.Need-drag-on-requires
 drag-on-requires c κs = let a = call-accepted (c .before .before .before .before .before .before .before .before .before .before .before .before .before .before .before .before .before .args .s .now) (c .before .before .before .before .before .before .before .before .before .before .before .before .before .before .before .before .before .args .n) (c .before .before .before .before .before .before .before .before .before .before .before .before .before .before .before .before .before .args .k) (c .before .before .before .before .before .before .before .before .before .before .before .before .before .before .before .before .before .args .slider .kept) (c .before .before .before .before .before .before .before .before .before .before .before .before .before .before .before .before .before .args .mines .now) (c .before .before .before .before .before .before .before .before .before .before .before .before .before .before .before .before .before .args .shown .now) (c .before .before .before .before .before .before .before .before .before .before .before .before .before .before .before .before .before .args .bits .now) (c .before .before .before .before .before .before .before .before .before .before .before .before .before .before .before .before .before .args .work .now) (c .before .before .before .before .before .before .before .before .before .before .before .before .before .before .before .before .before .args .room .now) (c .before .before .before .before .before .before .before .before .before .before .before .read-book .result) (c .before .before .before .before .before .before .before .before .before .before .before .read-book .ensures) (c .before .before .before .before .before .before .drag-refusal .ensures) (c .before .before .before .before .before .if1 .left) in ((c .before .before .before .before .before .before .before .before .before .before .before .read-book .ensures, a .book), (lent-fit _ _ _ _ _ (a .lent), (a .some, a .there)))
 
--- src/lib.rt:185:1
 same-length-5 : tie.Need-same-length-5
 same-length-5 c = search needs
 
--- src/lib.rt:185:1
 same-length-6 : tie.Need-same-length-6
 same-length-6 c = search needs
 
--- src/lib.rt:185:1
 same-length-7 : tie.Need-same-length-7
 same-length-7 c = search needs
 
--- src/lib.rt:185:1
 same-length-8 : tie.Need-same-length-8
 same-length-8 c = search needs
 
--- src/lib.rt:185:1
 same-length-9 : tie.Need-same-length-9
 same-length-9 c = search needs
 
--- src/lib.rt:185:1
 returns-2 : tie.Need-returns-2
 returns-2 c = c .before .before .before .before .before .before .before .before .before .drag-on .ensures ∙ call-dragged (c .before .before .before .before .before .before .before .before .before .before .before .before .before .before .before .before .before .before .before .before .before .before .before .before .before .before .before .args .s .now) (c .before .before .before .before .before .before .before .before .before .before .before .before .before .before .before .before .before .before .before .before .before .before .before .before .before .before .before .args .n) (c .before .before .before .before .before .before .before .before .before .before .before .before .before .before .before .before .before .before .before .before .before .before .before .before .before .before .before .args .k) (c .before .before .before .before .before .before .before .before .before .before .before .before .before .before .before .before .before .before .before .before .before .before .before .before .before .before .before .args .slider .kept) (c .before .before .before .before .before .before .before .before .before .before .before .before .before .before .before .before .before .before .before .before .before .before .before .before .before .before .before .args .mines .now) (c .before .before .before .before .before .before .before .before .before .before .before .before .before .before .before .before .before .before .before .before .before .before .before .before .before .before .before .args .shown .now) (c .before .before .before .before .before .before .before .before .before .before .before .before .before .before .before .before .before .before .before .before .before .before .before .before .before .before .before .args .bits .now) (c .before .before .before .before .before .before .before .before .before .before .before .before .before .before .before .before .before .before .before .before .before .before .before .before .before .before .before .args .work .now) (c .before .before .before .before .before .before .before .before .before .before .before .before .before .before .before .before .before .before .before .before .before .before .before .before .before .before .before .args .room .now) (c .before .before .before .before .before .before .before .before .before .before .before .before .before .before .before .before .before .before .before .before .before .read-book .result) (c .before .before .before .before .before .before .before .before .before .before .before .before .before .before .before .before .before .before .before .before .before .read-book .ensures) (c .before .before .before .before .before .before .before .before .before .before .before .before .before .before .before .before .drag-refusal .ensures) (c .before .before .before .before .before .before .before .before .before .before .before .before .before .before .before .if1 .left)
 

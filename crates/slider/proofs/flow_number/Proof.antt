@@ -1,14 +1,11 @@
+-- `slider::flow_number` meets its contract.
 use Rattle.slider.proofs.Dragging.{number-some, number-none}
 use Rattle.slider.proofs.flow_number.Statement.{statement}
 use Rattle.slider.proofs.flow_number.Tie as tie
-use Rattle.slider.proofs.flow_number.Reads as reads
-use Rattle.slider.proofs.flow_number.Lts as lts
 
--- src/lib.rt:117:9
 returns : tie.Need-returns
 returns c = number-some _ (c .if1 .taken)
 
--- src/lib.rt:113:1
 returns-2 : tie.Need-returns-2
 returns-2 c = number-none _ (c .if1 .left)
 

@@ -1,28 +1,21 @@
+-- `slider::lent_fits` meets its contract.
 use Rattle.slider.proofs.Dragging.{lent-are}
 use borrow.Author.Needs.{needs}
 use Rattle.slider.proofs.lent_fits.Statement.{statement}
 use Rattle.slider.proofs.lent_fits.Tie as tie
-use Rattle.slider.proofs.lent_fits.Reads as reads
-use Rattle.slider.proofs.lent_fits.Lts as lts
-use Rattle.boards.proofs.cell_count.Reads as cell-count-reads
 
--- src/lib.rt:66:9
 cell-count-requires : tie.Need-cell-count-requires
 cell-count-requires c κs = search needs
 
--- src/lib.rt:67:82
 add-fit : tie.Need-add-fit
 add-fit c = search needs
 
--- src/lib.rt:68:12
 mul-result : tie.Need-mul-result
 mul-result c = search needs
 
--- src/lib.rt:68:12
 add-result : tie.Need-add-result
 add-result c = search needs
 
--- src/lib.rt:63:1
 returns : tie.Need-returns
 returns c = lent-are (c .before .before .before .before .args .g) (c .before .before .before .before .args .mines .now) (c .before .before .before .before .args .shown .now) (c .before .before .before .before .args .bits .now) (c .before .before .before .before .args .work .now) (c .cell-count .ensures .0)
 

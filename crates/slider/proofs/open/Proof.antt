@@ -1,16 +1,12 @@
+-- `slider::open` meets its contract.
 use Rattle.slider.proofs.Dragging.{open-is}
 use borrow.Author.Needs.{needs}
 use Rattle.slider.proofs.open.Statement.{statement}
 use Rattle.slider.proofs.open.Tie as tie
-use Rattle.slider.proofs.open.Reads as reads
-use Rattle.slider.proofs.open.Lts as lts
-use Rattle.book.proofs.read_book.Reads as read-book-reads
 
--- src/lib.rt:43:9
 read-book-requires : tie.Need-read-book-requires
 read-book-requires c κs = search needs
 
--- src/lib.rt:40:1
 returns : tie.Need-returns
 returns c = open-is (c .before .before .args .s .now) (c .read-book .result) (c .read-book .ensures)
 

@@ -1,81 +1,59 @@
+-- `sliding::slide_to` meets its contract.
 use mathlib.Core.Path.{_∙_}
 use native.Mathlib.Omega.{arith}
 use Rattle.sliding.proofs.Dragging.{start-drag, startable, from-drag}
 use borrow.Author.Needs.{needs}
 use Rattle.sliding.proofs.slide_to.Statement.{statement}
 use Rattle.sliding.proofs.slide_to.Tie as tie
-use Rattle.sliding.proofs.slide_to.Reads as reads
-use Rattle.sliding.proofs.slide_to.Lts as lts
-use Rattle.gliding.proofs.glide.Reads as glide-reads
-use Rattle.sliding.proofs.held.Reads as held-reads
-use Rattle.sliding.proofs.slide_from.Reads as slide-from-reads
-use Rattle.sliding.proofs.slot_for.Reads as slot-for-reads
 
--- src/lib.rt:144:16
 add-size : tie.Need-add-size
 add-size c = search needs
 
--- src/lib.rt:144:16
 add-size-2 : tie.Need-add-size-2
 add-size-2 c = search needs
 
--- src/lib.rt:145:16
 div-most : tie.Need-div-most
 div-most c = search needs
 
--- src/lib.rt:146:9
 held-requires : tie.Need-held-requires
 held-requires c κs = search needs
 
--- src/lib.rt:147:9
 slot-for-requires : tie.Need-slot-for-requires
 slot-for-requires c κs = search needs
 
--- src/lib.rt:149:13
 glide-requires : tie.Need-glide-requires
 glide-requires c κs = (c .before .before .before .before .before .before .before .before .before .before .before .before .pre .0 .lawful, (c .before .before .before .before .before .before .before .before .before .before .before .before .pre .0 .blank, (c .before .before .before .before .before .before .before .before .before .before .before .before .pre .0 .some, (omega arith, c .before .before .before .before .before .before .before .before .before .before .before .before .pre .1))))
 
--- src/lib.rt:162:9
 same-length : tie.Need-same-length
 same-length c = search needs
 
--- src/lib.rt:162:9
 same-length-2 : tie.Need-same-length-2
 same-length-2 c = search needs
 
--- src/lib.rt:162:9
 same-length-3 : tie.Need-same-length-3
 same-length-3 c = search needs
 
--- src/lib.rt:162:9
 same-length-4 : tie.Need-same-length-4
 same-length-4 c = search needs
 
--- src/lib.rt:162:9
 returns : tie.Need-returns
 returns c = record { outcome = start-drag (c .before .before .before .before .before .before .before .before .before .before .before .before .before .before .before .before .before .before .before .before .before .args .mines .now) (c .before .before .before .before .before .before .before .before .before .before .before .before .before .before .before .before .before .before .before .before .before .args .section .now) (c .before .before .before .before .before .before .before .before .before .before .before .before .before .before .before .before .before .before .before .before .before .args .k) (c .before .before .before .before .before .before .before .before .before .before .before .before .before .before .before .before .before .before .before .before .before .args .p) (c .before .before .before .before .before .before .before .before .before .before .before .before .before .before .before .before .before .before .before .before .before .args .shown .now) (c .before .before .before .before .before .before .before .before .before .before .before .before .before .before .before .before .before .before .before .before .before .args .bits .now) (c .before .before .before .before .before .before .before .before .before .before .before .before .before .before .before .before .before .before .before .before .before .args .work .now) (c .before .before .before .before .before .before .before .before .before .before .before .before .before .before .before .before .before .before .before .before .before .pre .0) (c .before .before .before .before .before .before .before .before .before .before .before .before .before .before .before .before .before .before .before .before .before .args .n) (c .before .before .before .before .before .before .before .before .before .before .before .before .before .before .before .before .before .before .before .before .before .args .kept) (c .before .before .before .before .before .before .before .before .before .before .before .before .before .before .before .before .before .before .before .before .before .args .room .now) (c .before .before .before .before .before .before .before .before .before .before .before .before .before .before .before .held .ensures) (c .before .before .before .before .before .before .before .before .before .before .before .before .before .before .slot-for .ensures) (c .before .before .before .before .before .before .before .before .before .before .before .before .before .if1 .taken) (c .before .before .before .before .before .before .before .before .glide .ensures .outcome); same = c .before .before .before .before .before .before .before .before .glide .ensures .same }
 
--- src/lib.rt:167:5
 slide-from-requires : tie.Need-slide-from-requires
 slide-from-requires c κs = ((c .before .before .before .before .before .before .before .before .before .before .before .before .pre .0, c .before .before .before .before .before .before .before .before .before .before .before .before .pre .1), startable (c .before .before .before .before .before .before .before .before .before .before .before .before .args .mines .now) (c .before .before .before .before .before .before .before .before .before .before .before .before .args .section .now) (c .before .before .before .before .before .before .before .before .before .before .before .before .args .k) (c .before .before .before .before .before .before .before .before .before .before .before .before .args .p) (c .before .before .before .before .before .before .before .before .before .before .before .before .args .shown .now) (c .before .before .before .before .before .before .before .before .before .before .before .before .args .bits .now) (c .before .before .before .before .before .before .before .before .before .before .before .before .args .work .now) (c .before .before .before .before .before .before .before .before .before .before .before .before .pre .0) (c .before .before .before .before .before .before .before .before .before .before .before .before .args .n) (c .before .before .before .before .before .before .before .before .before .before .before .before .args .kept) (c .before .before .before .before .before .before .before .before .before .before .before .before .args .room .now) (c .before .before .before .before .before .before .held .ensures) (c .before .before .before .before .before .slot-for .ensures) (c .before .before .before .before .if1 .left))
 
--- src/lib.rt:129:1
 same-length-5 : tie.Need-same-length-5
 same-length-5 c = search needs
 
--- src/lib.rt:129:1
 same-length-6 : tie.Need-same-length-6
 same-length-6 c = search needs
 
--- src/lib.rt:129:1
 same-length-7 : tie.Need-same-length-7
 same-length-7 c = search needs
 
--- src/lib.rt:129:1
 same-length-8 : tie.Need-same-length-8
 same-length-8 c = search needs
 
--- src/lib.rt:129:1
 returns-2 : tie.Need-returns-2
 returns-2 c = record { outcome = c .before .before .before .before .before .before .before .before .slide-from .ensures .outcome ∙ from-drag (c .before .before .before .before .before .before .before .before .before .before .before .before .before .before .before .before .before .before .before .before .before .args .mines .now) (c .before .before .before .before .before .before .before .before .before .before .before .before .before .before .before .before .before .before .before .before .before .args .section .now) (c .before .before .before .before .before .before .before .before .before .before .before .before .before .before .before .before .before .before .before .before .before .args .k) (c .before .before .before .before .before .before .before .before .before .before .before .before .before .before .before .before .before .before .before .before .before .args .p) (c .before .before .before .before .before .before .before .before .before .before .before .before .before .before .before .before .before .before .before .before .before .args .shown .now) (c .before .before .before .before .before .before .before .before .before .before .before .before .before .before .before .before .before .before .before .before .before .args .bits .now) (c .before .before .before .before .before .before .before .before .before .before .before .before .before .before .before .before .before .before .before .before .before .args .work .now) (c .before .before .before .before .before .before .before .before .before .before .before .before .before .before .before .before .before .before .before .before .before .pre .0) (c .before .before .before .before .before .before .before .before .before .before .before .before .before .before .before .before .before .before .before .before .before .args .n) (c .before .before .before .before .before .before .before .before .before .before .before .before .before .before .before .before .before .before .before .before .before .args .kept) (c .before .before .before .before .before .before .before .before .before .before .before .before .before .before .before .before .before .before .before .before .before .args .room .now) (c .before .before .before .before .before .before .before .before .before .before .before .before .before .before .before .held .ensures) (c .before .before .before .before .before .before .before .before .before .before .before .before .before .before .slot-for .ensures); same = c .before .before .before .before .before .before .before .before .slide-from .ensures .same }
 
