@@ -1,4 +1,4 @@
-// The oracle's subcommands: the Rust as the judge of books, positions and single steps; and pictures.
+// The oracle's subcommands: the Rust as the judge of books, positions and single steps; pictures; and the trainer.
 
 mod board;
 mod book;
@@ -8,6 +8,7 @@ mod drawn;
 mod game;
 mod lawful;
 mod layout;
+mod lessons;
 mod noflag;
 mod packed;
 mod packed_steps;
@@ -21,6 +22,7 @@ mod random;
 mod sections;
 mod slider;
 mod steps;
+mod trainer;
 
 use books::Kind;
 use printout::printout;
@@ -43,7 +45,10 @@ const USAGE: &str = "usage:
   oracle coverage SEED COUNT [KIND]  what such books reach
   oracle draws                       packed books on standard input: their pictures
   oracle pictures SEED COUNT         packed pictures, many of them damaged
-  oracle views                       packed pictures on standard input: what is printed of each";
+  oracle views                       packed pictures on standard input: what is printed of each
+  oracle hints                       packed books on standard input: the hint for the last board of each
+  oracle practices SEED COUNT        packed practices: questions and reports in a row, some of them damaged
+  oracle lessons                     packed practices on standard input: what is printed of each";
 
 type Outcome = Result<bool, String>;
 
@@ -82,6 +87,9 @@ fn run(words: &[&str]) -> Outcome {
         ["draws"] => answers(picture::draw),
         ["pictures", seed, count] => write_pictures(number(seed)?, number(count)?),
         ["views"] => answers(picture::view),
+        ["hints"] => answers(trainer::hint_of_book),
+        ["practices", seed, count] => write_practices(number(seed)?, number(count)?),
+        ["lessons"] => answers(trainer::practice),
         _ => Err(USAGE.into()),
     }
 }
@@ -118,6 +126,14 @@ fn write_pictures(seed: u64, count: u64) -> Outcome {
     let mut packed = Vec::new();
     for number in 0..count {
         packed::pack(&mut packed, &pictures::picture(seed, number));
+    }
+    write(&packed)
+}
+
+fn write_practices(seed: u64, count: u64) -> Outcome {
+    let mut packed = Vec::new();
+    for number in 0..count {
+        packed::pack(&mut packed, &lessons::practice(seed, number));
     }
     write(&packed)
 }

@@ -1,6 +1,6 @@
 // The picture of document 02, plain PGM, from the request alone: what is drawn of a book, and what is printed of any bytes that are read as a picture.
 
-use crate::board::size_allowed;
+use crate::board::{size_allowed, Rows};
 use crate::book;
 use crate::game::Game;
 use crate::printout::spaced;
@@ -8,20 +8,26 @@ use crate::printout::spaced;
 /// The values that a cell can show.
 pub const SHOWN: [u64; 14] = [0, 1, 2, 3, 4, 5, 6, 7, 8, 10, 11, 14, 15, 17];
 
-/// The picture of a book's last shown board, or its refusal.
-pub fn draw(bytes: &[u8]) -> String {
-    let book = match book::read(bytes) {
-        Ok(book) => book,
-        Err(fault) => return format!("refused {} at {}\n", fault.number, fault.place),
-    };
+/// A book's last shown board, or the line of its refusal.
+pub fn last_board(bytes: &[u8]) -> Result<Rows, String> {
+    let book = book::read(bytes).map_err(|fault| format!("refused {} at {}\n", fault.number, fault.place))?;
     let mut game = Game::setup(book.settings, &book.mines).expect("the book's reader has tested what setup tests");
     for record in book.events.chunks_exact(3) {
         if game.step(record[0], record[1].into(), record[2].into()) >= 20 {
             break;
         }
     }
-    let mut picture = format!("P2\n{}\n{}\n17\n", book.settings.columns, book.settings.rows);
-    for cell in game.board.game_board.iter().flatten() {
+    Ok(game.board.game_board)
+}
+
+/// The picture of a book's last shown board, or its refusal.
+pub fn draw(bytes: &[u8]) -> String {
+    let board = match last_board(bytes) {
+        Ok(board) => board,
+        Err(refusal) => return refusal,
+    };
+    let mut picture = format!("P2\n{}\n{}\n17\n", board[0].len(), board.len());
+    for cell in board.iter().flatten() {
         picture += &format!("{cell}\n");
     }
     picture

@@ -15,10 +15,10 @@ use Rattle.rules.specs.Grid.{sizeOk, cellOf}
 use Rattle.rules.specs.Board.{valueOkAt, valuesOk, numberOk, numbersOk, someSafe, boardRefusal, placeOf, faultOf}
 use Rattle.cells.specs.Ground.{Sized, Mined}
 use Rattle.cells.proofs.Words.{every-at}
+use Rattle.cells.proofs.Firsts.{first-le, first-fails}
 use Rattle.cells.proofs.Face.{values-valued}
 use Rattle.cells.proofs.Grid.{size-limits, on-grid, cell-back}
 use Rattle.boards.specs.Faults.{Placeable, FirstWrong}
-use Rattle.boards.proofs.Scans.{first-le, first-fails}
 
 -- ---- the search ------------------------------------------------------------------------------------------------------------------------
 

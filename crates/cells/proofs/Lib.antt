@@ -1,4 +1,5 @@
 pub mod Words
+pub mod Firsts
 pub mod Grid
 pub mod Face
 pub mod Filling

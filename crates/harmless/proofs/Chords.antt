@@ -24,7 +24,7 @@ use Rattle.keep.proofs.Opened.{opening-spares}
 use Rattle.keep.proofs.Passes.{playing-is}
 use Rattle.harmless.specs.Harmless.{Right, Spared, stays, opens, AllSpared, NotLost}
 use Rattle.harmless.proofs.Spared.{harmless-by, playing-not-lost, Calm, calm-on, calm-none}
-use Rattle.harmless.proofs.Numbers.{Honest, honest-after, useful-safe}
+use Rattle.harmless.proofs.Numbers.{Honest, honest-after, honest-own, useful-safe}
 
 -- ---- an opening that hits no mine --------------------------------------------------------------------------------------------------------
 
@@ -63,7 +63,7 @@ module _ (B : List ℤ) (i : ℕ) (d : Desk) (t : Honest B (d .position .setting
       let o : Opened = refreshed B R C cells (d .shown) in
       let safe : o .hit ≡ false =
       opening-safe B R C (t .valued) (t .numbers) cells (d .shown) (t .long)
-      (all-pushed R C (closedAt (d .shown)) i 8 [] (λ x. closedAt (d .shown) x ≡ true → mineAt B x ≡ false) (λ j j8 e _. useful-safe t (r .flags) i lt u j j8 e) (λ x e. absurd e)) in
+      (all-pushed R C (closedAt (d .shown)) i 8 [] (λ x. closedAt (d .shown) x ≡ true → mineAt B x ≡ false) (λ j j8 e _. useful-safe (honest-own t) (r .flags) i lt u j j8 e) (λ x e. absurd e)) in
       let spared : AllSpared B (d .shown) (o .shown) =
       λ j. changed-spared (t .valued) safe (opening-changes B R C cells (d .shown) (t .valued) j) (λ m. opening-spares B R C cells (d .shown) j m safe) in
       let end = ended-unhit 3 (chordCounts B cells d) o safe (r .playing) in

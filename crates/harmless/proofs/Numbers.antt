@@ -31,7 +31,7 @@ use Rattle.harmless.proofs.Spared.{spared-lawful, Calm}
 -- ---- what one cell may show --------------------------------------------------------------------------------------------------------------
 
 -- an open cell shows its own number
-own-number : (q loss : Bool) (f x : ℕ) → x ≤ 8 → cellLawful q loss f x ≡ true → x ≡ f
+pub own-number : (q loss : Bool) (f x : ℕ) → x ≤ 8 → cellLawful q loss f x ≡ true → x ≡ f
 unfolding cellLawful
 own-number q loss f x h e = eqb-true x f (rw (le-leb x 8 h) at e)
 
@@ -135,22 +135,35 @@ open-in l i h = go (decLt i (length l))
     go (yes lt) = lt
     go (no ge) = let z : getD l i 0 ≡ 0 = List·getD-eq-default l 0 (omega arith) in absurd (omega arith)
 
-module _ {B : List ℤ} {s : Settings} {l : List ℕ} (t : Honest B s l) where
+-- right numbers, and open cells that show their own
+pub record OwnNumbers (B : List ℤ) (R C : ℕ) (l : List ℕ) : Type 0 where
+  pub numbers : numbersOk B R C ≡ true
+  pub long : length B ≡ length l
+  pub own : (i : ℕ) → i < length l → getD l i 0 ≤ 8 → getD l i 0 ≡ faceAt B i
+
+pub honest-own : {B : List ℤ} {s : Settings} {l : List ℕ} → Honest B s l → OwnNumbers B (s .rows) (s .columns) l
+honest-own {B} {s} {l} t = record {
+  numbers = t .numbers;
+  long = t .long;
+  own = λ i lt le. own-number (s .question) false (faceAt B i) (getD l i 0) le (t .cells i lt);
+}
+
+module _ {B : List ℤ} {R C : ℕ} {l : List ℕ} (t : OwnNumbers B R C l) where
   -- an open cell shows how many mines are around it
-  number-mines : (i : ℕ) → i < length l → getD l i 0 ≤ 8 → getD l i 0 ≡ around (s .rows) (s .columns) (mineAt B) i
+  number-mines : (i : ℕ) → i < length l → getD l i 0 ≤ 8 → getD l i 0 ≡ around R C (mineAt B) i
   unfolding numbersOk numberOk
   number-mines i lt le =
-      let o = own-number (s .question) false (faceAt B i) (getD l i 0) le (t .cells i lt) in
-      let p = every-at (numberOk B (s .rows) (s .columns)) (length B) (t .numbers) i (omega (arith, t .long)) in
+      let o = t .own i lt le in
+      let p = every-at (numberOk B R C) (length B) (t .numbers) i (omega (arith, t .long)) in
       let m : mineAt B i ≡ false = ne-eqb (faceAt B i) 15 (λ e. omega arith) in
-      o ∙ eqb-true _ _ (ap (λ (t : Bool). t || eqb (faceAt B i) (around (s .rows) (s .columns) (mineAt B) i)) (sym m) ∙ p)
+      o ∙ eqb-true _ _ (ap (λ (t : Bool). t || eqb (faceAt B i) (around R C (mineAt B) i)) (sym m) ∙ p)
 
   -- THE LAW of a number whose flags are as many as it says: with every flag on a mine, the closed neighbours are safe
-  pub full-safe : FlagsOnMines B l → (i : ℕ) → i < length l → getD l i 0 ≤ 8 → around (s .rows) (s .columns) (flagAt l) i ≡ getD l i 0
-      → (k : ℕ) → k < 8 → closedAt l (neighbour (s .rows) (s .columns) i k) ≡ true → mineAt B (neighbour (s .rows) (s .columns) i k) ≡ false
+  pub full-safe : FlagsOnMines B l → (i : ℕ) → i < length l → getD l i 0 ≤ 8 → around R C (flagAt l) i ≡ getD l i 0
+      → (k : ℕ) → k < 8 → closedAt l (neighbour R C i k) ≡ true → mineAt B (neighbour R C i k) ≡ false
   unfolding around
   full-safe f i lt le same k k8 e =
-      let at : ℕ → ℕ = neighbour (s .rows) (s .columns) i in
+      let at : ℕ → ℕ = neighbour R C i in
       false-unless (mineAt B (at k))
       (λ m.
       let g = filled (λ k. flagAt l (at k)) (λ k. mineAt B (at k)) 8 (λ k _ t. f (at k) (eqb-true _ 11 t)) (same ∙ number-mines i lt le) k k8 m in
@@ -158,29 +171,29 @@ module _ {B : List ℤ} {s : Settings} {l : List ℕ} (t : Honest B s l) where
       let q = eqb-true (getD l (at k) 0) 10 e in
       omega arith)
 
-  pub useful-safe : FlagsOnMines B l → (i : ℕ) → i < length l → chordIsUseful (s .rows) (s .columns) l i ≡ true
-      → (k : ℕ) → k < 8 → closedAt l (neighbour (s .rows) (s .columns) i k) ≡ true → mineAt B (neighbour (s .rows) (s .columns) i k) ≡ false
+  pub useful-safe : FlagsOnMines B l → (i : ℕ) → i < length l → chordIsUseful R C l i ≡ true
+      → (k : ℕ) → k < 8 → closedAt l (neighbour R C i k) ≡ true → mineAt B (neighbour R C i k) ≡ false
   unfolding chordIsUseful
   useful-safe f i lt u =
       let low = ltb-true (getD l i 0) 8 (and-left (ltb (getD l i 0) 8) _ u) in
       full-safe f i lt (omega arith) (eqb-true _ _ (and-left _ _ (and-right (ltb (getD l i 0) 8) _ u)))
 
-  module _ (q : (i : ℕ) → getD l i 0 ≡ 17 → ⊥) where
-    -- a mine shows 11 or 10
-    mine-hidden : (i : ℕ) → mineAt B i ≡ true → (flagAt l i || closedAt l i) ≡ true
-    mine-hidden i m =
-        let lt : i < length l = let a = mine-in B i m in omega (arith, t .long) in
-        mine-shows (s .question) (getD l i 0) (q i) (ap (λ (f : ℕ). cellLawful (s .question) false f (getD l i 0)) (sym (eqb-true (faceAt B i) 15 m)) ∙ t .cells i lt)
+module _ {B : List ℤ} {s : Settings} {l : List ℕ} (t : Honest B s l) (q : (i : ℕ) → getD l i 0 ≡ 17 → ⊥) where
+  -- a mine shows 11 or 10
+  mine-hidden : (i : ℕ) → mineAt B i ≡ true → (flagAt l i || closedAt l i) ≡ true
+  mine-hidden i m =
+      let lt : i < length l = let a = mine-in B i m in omega (arith, t .long) in
+      mine-shows (s .question) (getD l i 0) (q i) (ap (λ (f : ℕ). cellLawful (s .question) false f (getD l i 0)) (sym (eqb-true (faceAt B i) 15 m)) ∙ t .cells i lt)
 
-    -- THE LAW of a ripe number, whose flags and closed neighbours are as many as it says: the closed neighbours are mines
-    pub ripe-mines : (i : ℕ) → ripeAt (s .rows) (s .columns) l i ≡ true
-        → (k : ℕ) → k < 8 → closedAt l (neighbour (s .rows) (s .columns) i k) ≡ true → mineAt B (neighbour (s .rows) (s .columns) i k) ≡ true
-    unfolding around
-    ripe-mines i r k k8 e =
-        let R : ℕ = s .rows in
-        let C : ℕ = s .columns in
-        let p = ripe-parts R C l i r in
-        let nm = number-mines i (open-in l i (p .low)) (p .high) in
-        filled (λ k. mineAt B (neighbour R C i k)) (λ k. flagAt l (neighbour R C i k) || closedAt l (neighbour R C i k)) 8
-        (λ k _. mine-hidden (neighbour R C i k)) (sym nm ∙ p .sum ∙ either-counts R C l i) k k8
-        (or-right (flagAt l (neighbour R C i k)) (closedAt l (neighbour R C i k)) e)
+  -- THE LAW of a ripe number, whose flags and closed neighbours are as many as it says: the closed neighbours are mines
+  pub ripe-mines : (i : ℕ) → ripeAt (s .rows) (s .columns) l i ≡ true
+      → (k : ℕ) → k < 8 → closedAt l (neighbour (s .rows) (s .columns) i k) ≡ true → mineAt B (neighbour (s .rows) (s .columns) i k) ≡ true
+  unfolding around
+  ripe-mines i r k k8 e =
+      let R : ℕ = s .rows in
+      let C : ℕ = s .columns in
+      let p = ripe-parts R C l i r in
+      let nm = number-mines (honest-own t) i (open-in l i (p .low)) (p .high) in
+      filled (λ k. mineAt B (neighbour R C i k)) (λ k. flagAt l (neighbour R C i k) || closedAt l (neighbour R C i k)) 8
+      (λ k _. mine-hidden (neighbour R C i k)) (sym nm ∙ p .sum ∙ either-counts R C l i) k k8
+      (or-right (flagAt l (neighbour R C i k)) (closedAt l (neighbour R C i k)) e)

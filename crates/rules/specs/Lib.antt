@@ -17,4 +17,5 @@ pub mod Printout
 pub mod Picture
 pub mod Noflag
 pub mod Slides
+pub mod Trainer
 pub mod Positions

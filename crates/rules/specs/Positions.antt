@@ -1,6 +1,6 @@
 -- The positions that document 01 marks P, and twelve beside them, as one table and one theorem that the checker computes over the definitions; after it
 -- the same for the number of safe cells still closed, for positions that are refused, for events that are resolved or played as they are, for the
--- no-flag class and for the slider.
+-- no-flag class, for the slider and for the trainer's hints and scores.
 -- Open is lc, lr; flag rc, rr. Each row is a game from its fresh start: settings, mine list, events, all that stands at its end, and what each event opened.
 use mathlib.Core.Path.{_≡_, refl}
 use mathlib.Core.Bool.{Bool, true, false, _&&_}
@@ -31,6 +31,12 @@ use Rattle.rules.specs.Book.{eventsFrom, minesFrom, minesSection, settin
 use Rattle.rules.specs.Printout.{nineCounts, twoBv}
 use Rattle.rules.specs.Noflag.{forbidden, classRefusalAt, classStepAt, classStepBy, classStepOn, classSettingsRefusal, classSetupRefusal, classSettingsSection, classSectionsOf, classBookOf, classPlays}
 use Rattle.rules.specs.Slides.{Tape, flowNumber, Slots, Kept, emptied, turn, glide, slideFrom, slideTo, lentFits, roomFits, dragRefusal, dragBy, dragOf}
+use Rattle.rules.specs.declared.Place.the-variants.{Nowhere}
+use Rattle.rules.specs.declared.Hint.{Hint}
+use Rattle.rules.specs.declared.Hint.the-variants.{Cell, Nothing, Refused}
+use Rattle.rules.specs.declared.Score.{Score}
+use Rattle.rules.specs.Picture.{isShown, allShown, shownRefusal}
+use Rattle.rules.specs.Trainer.{justifies, offered, hintBy, hintOf, score, reportOf, Call, question, report, callOf}
 
 pub record Row : Type 0 where
   pub name : ℕ
@@ -541,3 +547,62 @@ pub slide-positions : wrongSaid slideTable ≡ []
 unfolding wrongSaid same slideTable said dragged recorded worked-book counted tape slots slidesOn size open′ flag′ event count every mineOk boardsFit workFits rulesOk modeOk sizeOk
     settingsSection sectionsOf bookOf eventsFrom minesFrom minesSection bookEnds turn glide slideFrom slideTo lentFits roomFits dragRefusal dragBy dragOf
 slide-positions = refl
+
+-- ---- hints, and their score ------------------------------------------------------------------------------------------------------------
+
+-- the hint's cell and its number's; 0 for nothing; the number of a refusal
+hinted : Hint → List ℕ
+hinted (Cell row column byRow byColumn) = row ∷ column ∷ byRow ∷ byColumn ∷ []
+hinted Nothing = 0 ∷ []
+hinted (Refused n) = n ∷ []
+
+heard : Call → List ℕ
+heard (question R C shown) = hinted (hintOf R C shown)
+heard (report row column opened) = []
+
+-- after each call: what a question is answered, hints asked for and followed, and the two bytes of the cell of the hint that lives
+unfoldable taught : List Call → Score → List ℕ
+taught [] s = []
+taught (c ∷ cs) s =
+    let t = callOf c s in
+    heard c ++ (t .asked ∷ t .followed ∷ rowByte (t .hint) ∷ columnByte (t .hint) ∷ taught cs t)
+
+-- a lesson: hints asked for and followed when it begins, with no hint alive; its calls
+lesson : ℕ → ℕ → ℕ → List Call → List ℕ → Said
+lesson n asked followed calls says = said n (taught calls (score asked followed Nowhere)) says
+
+-- 11 1 10, whose last cell is offered
+flagged : Call
+flagged = question 1 3 (11 ∷ 1 ∷ 10 ∷ [])
+
+pub lessons : List Said
+lessons =
+    -- a report of 0, of 1, and again
+    lesson 1 0 0 (flagged ∷ report 0 2 0 ∷ report 0 2 1 ∷ report 0 2 1 ∷ [])
+    (0 ∷ 2 ∷ 0 ∷ 1 ∷ 1 ∷ 0 ∷ 0 ∷ 2 ∷ 1 ∷ 0 ∷ 0 ∷ 2 ∷ 1 ∷ 1 ∷ 255 ∷ 255 ∷ 1 ∷ 1 ∷ 255 ∷ 255 ∷ [])
+    -- the hint is spent elsewhere
+    ∷ lesson 2 0 0 (flagged ∷ report 0 1 1 ∷ report 0 2 1 ∷ [])
+    (0 ∷ 2 ∷ 0 ∷ 1 ∷ 1 ∷ 0 ∷ 0 ∷ 2 ∷ 1 ∷ 0 ∷ 255 ∷ 255 ∷ 1 ∷ 0 ∷ 255 ∷ 255 ∷ [])
+    -- 10 1 10: nothing, and the hint before it is dropped
+    ∷ lesson 3 0 0 (flagged ∷ question 1 3 (10 ∷ 1 ∷ 10 ∷ []) ∷ report 0 2 1 ∷ [])
+    (0 ∷ 2 ∷ 0 ∷ 1 ∷ 1 ∷ 0 ∷ 0 ∷ 2 ∷ 0 ∷ 2 ∷ 0 ∷ 255 ∷ 255 ∷ 2 ∷ 0 ∷ 255 ∷ 255 ∷ [])
+    -- two bytes for 1×3, 0×3, a 12: refused, and the hint lives on
+    ∷ lesson 4 0 0 (flagged ∷ question 1 3 (11 ∷ 1 ∷ []) ∷ question 0 3 (11 ∷ 1 ∷ 10 ∷ []) ∷ question 1 3 (12 ∷ 1 ∷ 10 ∷ []) ∷ report 0 2 1 ∷ [])
+    (0 ∷ 2 ∷ 0 ∷ 1 ∷ 1 ∷ 0 ∷ 0 ∷ 2 ∷ 21 ∷ 1 ∷ 0 ∷ 0 ∷ 2 ∷ 20 ∷ 1 ∷ 0 ∷ 0 ∷ 2 ∷ 261 ∷ 1 ∷ 0 ∷ 0 ∷ 2 ∷ 1 ∷ 1 ∷ 255 ∷ 255 ∷ [])
+    -- both counts stay at 65,535
+    ∷ lesson 5 65535 65535 (flagged ∷ report 0 2 1 ∷ [])
+    (0 ∷ 2 ∷ 0 ∷ 1 ∷ 65535 ∷ 65535 ∷ 0 ∷ 2 ∷ 65535 ∷ 65535 ∷ 255 ∷ 255 ∷ [])
+    -- 3×3, 10 1 11 / 1 1 1 / 10 10 10: the first of four cells, by the first of two numbers
+    ∷ lesson 6 0 0 (question 3 3 (10 ∷ 1 ∷ 11 ∷ 1 ∷ 1 ∷ 1 ∷ 10 ∷ 10 ∷ 10 ∷ []) ∷ []) (0 ∷ 0 ∷ 0 ∷ 1 ∷ 1 ∷ 0 ∷ 0 ∷ 0 ∷ [])
+    -- 10 0 10: a 0 justifies nothing; 14 1 10: a wrong flag is none; eight flags leave no cell to offer
+    ∷ lesson 7 0 0 (question 1 3 (10 ∷ 0 ∷ 10 ∷ []) ∷ []) (0 ∷ 1 ∷ 0 ∷ 255 ∷ 255 ∷ [])
+    ∷ lesson 8 0 0 (question 1 3 (14 ∷ 1 ∷ 10 ∷ []) ∷ []) (0 ∷ 1 ∷ 0 ∷ 255 ∷ 255 ∷ [])
+    ∷ lesson 9 0 0 (question 3 3 (11 ∷ 11 ∷ 11 ∷ 11 ∷ 8 ∷ 11 ∷ 11 ∷ 11 ∷ 11 ∷ []) ∷ []) (0 ∷ 1 ∷ 0 ∷ 255 ∷ 255 ∷ [])
+    -- 10 2 10 1 11: the first number beside the cell does not justify it, the second does
+    ∷ lesson 10 0 0 (question 1 5 (10 ∷ 2 ∷ 10 ∷ 1 ∷ 11 ∷ []) ∷ []) (0 ∷ 2 ∷ 0 ∷ 3 ∷ 1 ∷ 0 ∷ 0 ∷ 2 ∷ [])
+    ∷ []
+
+pub lessons-taught : wrongSaid lessons ≡ []
+unfolding wrongSaid same said taught heard hinted lessons lesson flagged hintOf hintBy justifies offered reportOf shownRefusal isShown allShown firstNot count every sizeOk ninth
+    cellBefore neighbour around
+lessons-taught = refl

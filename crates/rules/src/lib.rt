@@ -138,6 +138,31 @@ pub struct Picture {
     pub columns: u8,
 }
 
+// What a question is answered: a cell to open with its number's cell, nothing to show, or the number of a refusal.
+pub enum Hint {
+    Cell {
+        row: u8,
+        column: u8,
+        by_row: u8,
+        by_column: u8,
+    },
+    Nothing,
+    Refused(u16),
+}
+
+// Hints asked for, hints followed, and the latest hint's cell if it lives.
+pub struct Score {
+    pub asked: u16,
+    pub followed: u16,
+    pub hint: Place,
+}
+
+// What a question gives: the hint, and the score after it.
+pub struct Advice {
+    pub hint: Hint,
+    pub score: Score,
+}
+
 pub fn game_number(g: GameState) -> u8
     ensures { λ r. ⌜ r ≡ gameNumber g ⌝ }
 {

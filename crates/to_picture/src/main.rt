@@ -5,7 +5,7 @@ ghost use Prim.Native.Nat.{_<_};
 ghost use lib.ListN.{length};
 ghost use Rattle.rules.specs.Book.{bookOf};
 ghost use Rattle.rules.specs.Picture.{pictureOf};
-ghost use Rattle.to_picture.specs.Last.{Last};
+ghost use Rattle.last_board.specs.Last.{Last};
 use libc::STDIN_FILENO;
 use libc::STDOUT_FILENO;
 use rules::Book;
@@ -40,16 +40,13 @@ fn write_board(s: &[u8], b: Book, shown: &[u8])
     hand(s, &out[..n]);
 }
 
-// A book played as it is printed; then its last shown board is drawn.
+// A book played to its end; then its last shown board is drawn.
 fn write_book(s: &[u8])
     requires { ⌜ length (now s) < 4294967296 ⌝ }
 {
-    let mut mines = player::mine_board();
     let mut shown = player::shown_board();
-    let mut bits = player::flag_bits();
-    let mut work = player::work_room();
     let mut text = player::text_room();
-    let n = player::print_book(s, &mut mines, &mut shown, &mut bits, &mut work, &mut text);
+    let n = last_board::play_to_end(s, &mut shown, &mut text);
     let b = book::read_book(s);
     if b.number != 0 {
         hand(s, &text[..n]);

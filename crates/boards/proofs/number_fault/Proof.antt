@@ -8,7 +8,8 @@ use lib.ListN.{length}
 use Rattle.rules.specs.Words.{every}
 use Rattle.rules.specs.Board.{numberOk}
 use Rattle.cells.proofs.Grid.{cell-lt}
-use Rattle.boards.proofs.Scans.{first-none, row-found, row-passed}
+use Rattle.cells.proofs.Firsts.{first-none}
+use Rattle.boards.proofs.Scans.{row-found, row-passed}
 use Rattle.boards.proofs.number_fault.Statement.{statement}
 use Rattle.boards.proofs.number_fault.Tie as tie
 

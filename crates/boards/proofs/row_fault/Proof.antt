@@ -8,7 +8,7 @@ use Rattle.rules.specs.Words.{every}
 use Rattle.rules.specs.Grid.{cellOf}
 use Rattle.rules.specs.Board.{numberOk}
 use Rattle.cells.proofs.Words.{every-turn}
-use Rattle.boards.proofs.Scans.{first-at, first-past}
+use Rattle.cells.proofs.Firsts.{first-at, first-past}
 use Rattle.boards.proofs.Tests.{says-no, says-yes}
 use Rattle.boards.proofs.row_fault.Statement.{statement}
 use Rattle.boards.proofs.row_fault.Tie as tie

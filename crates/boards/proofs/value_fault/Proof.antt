@@ -10,7 +10,7 @@ use lib.IntN.{pos}
 use Rattle.rules.specs.Board.{valueOkAt}
 use Rattle.rules.specs.Words.{every}
 use Rattle.cells.proofs.Words.{every-turn}
-use Rattle.boards.proofs.Scans.{first-at, first-past}
+use Rattle.cells.proofs.Firsts.{first-at, first-past}
 use Rattle.boards.proofs.Tests.{value-passed}
 use Rattle.boards.proofs.value_fault.Statement.{statement}
 use Rattle.boards.proofs.value_fault.Tie as tie

@@ -5,7 +5,7 @@ use borrow.Author.Needs.{needs}
 use lib.Dec.{eqb}
 use lib.ListN.{length}
 use Rattle.rules.specs.Board.{valueOkAt, valuesOk}
-use Rattle.boards.proofs.Scans.{first-end}
+use Rattle.cells.proofs.Firsts.{first-end}
 use Rattle.boards.proofs.values_ok.Statement.{statement}
 use Rattle.boards.proofs.values_ok.Tie as tie
 

@@ -2,7 +2,8 @@
 use mathlib.Core.Path.{sym}
 use lib.Seq.{length-take-le}
 use borrow.Author.Needs.{needs}
-use Rattle.to_picture.proofs.Drawn.{board-fits, picture-fits, picture-handed}
+use Rattle.last_board.proofs.Showable.{board-fits}
+use Rattle.to_picture.proofs.Drawn.{picture-fits, picture-handed}
 use Rattle.to_picture.proofs.write_board.Statement.{statement}
 use Rattle.to_picture.proofs.write_board.Tie as tie
 

@@ -1,0 +1,4 @@
+pub mod Hints
+pub mod Safety
+pub mod History
+pub mod Twins

@@ -1,0 +1,3 @@
+pub mod Hints
+pub mod History
+pub mod Twins

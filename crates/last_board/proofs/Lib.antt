@@ -1,0 +1,3 @@
+pub mod Played
+pub mod Showable
+pub mod Told

@@ -1,0 +1,4 @@
+pub mod Firsts
+pub mod Hints
+pub mod Scoring
+pub mod Outcomes
