@@ -23,12 +23,24 @@ pub fn read(bytes: &[u8]) -> Result<Book<'_>, Fault> {
 
 /// A book whose mode passes a test of the caller's.
 pub fn read_modes(bytes: &[u8], allowed: fn(u16) -> bool) -> Result<Book<'_>, Fault> {
+    let (book, end) = sections_of(bytes, allowed)?;
+    if end < bytes.len() {
+        return fault(43, end);
+    }
+    Ok(book)
+}
+
+/// The three sections, and where the last event ends.
+pub fn sections(bytes: &[u8]) -> Result<(Book<'_>, usize), Fault> {
+    sections_of(bytes, mode_allowed)
+}
+
+fn sections_of(bytes: &[u8], allowed: fn(u16) -> bool) -> Result<(Book<'_>, usize), Fault> {
     let mut reader = Reader { bytes, at: 0 };
     let settings = reader.settings(allowed)?;
     let mines = reader.mines(&settings)?;
     let events = reader.events()?;
-    reader.end()?;
-    Ok(Book { settings, mines, events })
+    Ok((Book { settings, mines, events }, reader.at))
 }
 
 struct Reader<'a> {
@@ -104,12 +116,5 @@ impl<'a> Reader<'a> {
             return fault(44, start);
         }
         self.take(3 * count)
-    }
-
-    fn end(&self) -> Result<(), Fault> {
-        if self.at < self.bytes.len() {
-            return fault(43, self.at);
-        }
-        Ok(())
     }
 }

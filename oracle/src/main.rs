@@ -1,8 +1,9 @@
-// The oracle's subcommands: the Rust as the judge of books, positions and single steps; pictures; and the trainer.
+// The oracle's subcommands: the Rust as the judge of books, positions and single steps; pictures, the trainer and claims.
 
 mod board;
 mod book;
 mod books;
+mod claims;
 mod coverage;
 mod drawn;
 mod game;
@@ -48,7 +49,10 @@ const USAGE: &str = "usage:
   oracle views                       packed pictures on standard input: what is printed of each
   oracle hints                       packed books on standard input: the hint for the last board of each
   oracle practices SEED COUNT        packed practices: questions and reports in a row, some of them damaged
-  oracle lessons                     packed practices on standard input: what is printed of each";
+  oracle lessons                     packed practices on standard input: what is printed of each
+  oracle visits SEED COUNT           packed books with claims, right, wrong and broken
+  oracle verdicts                    packed books on standard input: the checker's line for each
+  oracle claims                      packed books on standard input: what the second program writes for each";
 
 type Outcome = Result<bool, String>;
 
@@ -90,6 +94,9 @@ fn run(words: &[&str]) -> Outcome {
         ["hints"] => answers(trainer::hint_of_book),
         ["practices", seed, count] => write_practices(number(seed)?, number(count)?),
         ["lessons"] => answers(trainer::practice),
+        ["visits", seed, count] => write_visits(number(seed)?, number(count)?),
+        ["verdicts"] => answers(claims::check),
+        ["claims"] => written(claims::claim),
         _ => Err(USAGE.into()),
     }
 }
@@ -138,11 +145,23 @@ fn write_practices(seed: u64, count: u64) -> Outcome {
     write(&packed)
 }
 
+fn write_visits(seed: u64, count: u64) -> Outcome {
+    let mut packed = Vec::new();
+    for number in 0..count {
+        packed::pack(&mut packed, &claims::visiting(seed, number));
+    }
+    write(&packed)
+}
+
 fn answers(of: fn(&[u8]) -> String) -> Outcome {
+    written(|book| of(book).into_bytes())
+}
+
+fn written(of: impl Fn(&[u8]) -> Vec<u8>) -> Outcome {
     let stream = input()?;
     let mut out = BufWriter::new(std::io::stdout());
     for book in packed::unpack(&stream)? {
-        out.write_all(of(book).as_bytes()).map_err(said)?;
+        out.write_all(&of(book)).map_err(said)?;
     }
     out.flush().map_err(said)?;
     Ok(true)

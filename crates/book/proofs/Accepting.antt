@@ -147,11 +147,11 @@ module _ (s : List ℕ) (rest : Book) where
 -- ---- the whole book --------------------------------------------------------------------------------------------------------------------
 
 -- the sections are right exactly if they are laid out, and so read
-sections-laid : (s : List ℕ) → sectionsOf s .number ≡ 0 → SettingsLaid s × LaidFrom s (mineCountAt s) (settingsAt s)
+pub sections-laid : (s : List ℕ) → sectionsOf s .number ≡ 0 → SettingsLaid s × LaidFrom s (mineCountAt s) (settingsAt s)
 unfolding sectionsOf
 sections-laid s e = let p = settings-passed s (minesSection s (mineCountAt s) (settingsAt s)) e in (p .0, section-passed s (mineCountAt s) (settingsAt s) (p .1))
 
-sections-read : (s : List ℕ) → SettingsLaid s → LaidFrom s (mineCountAt s) (settingsAt s) → sectionsOf s ≡ laidBook s
+pub sections-read : (s : List ℕ) → SettingsLaid s → LaidFrom s (mineCountAt s) (settingsAt s) → sectionsOf s ≡ laidBook s
 unfolding sectionsOf
 sections-read s g l = settings-read s (minesSection s (mineCountAt s) (settingsAt s)) g ∙ section-read s (mineCountAt s) (settingsAt s) l
 
@@ -166,7 +166,7 @@ sections-short s z =
     let ends : eventsEnd (sectionsOf s) ≡ endAt s (mineCountAt s) = ap eventsEnd (sections-read s (l .0) (l .1)) in
     omega (arith, laid-short s (l .0) (l .1))
 
-end-passed : (s : List ℕ) (end : ℕ) (b : Book) → bookEnds s end b .number ≡ 0 → (b .number ≡ 0) × (length s ≤ end)
+pub end-passed : (s : List ℕ) (end : ℕ) (b : Book) → bookEnds s end b .number ≡ 0 → (b .number ≡ 0) × (length s ≤ end)
 unfolding bookEnds
 end-passed s end b e = go (eqb (b .number) 0) refl e
   where

@@ -8,7 +8,7 @@ use lib.IntN.{ℤ}
 use Rattle.rules.specs.declared.Settings.{Settings}
 use Rattle.rules.specs.declared.Book.{Book}
 use Rattle.rules.specs.Board.{numberingRefusal}
-use Rattle.rules.specs.Book.{bookOf, minesOf, eventsOf, partOf}
+use Rattle.rules.specs.Book.{refusedBook, sectionsOf, bookEnds, bookOf, minesOf, eventsOf, partOf}
 use Rattle.book.specs.Laid.{Laid}
 use Rattle.book.specs.Written.{Form, formOf, written, Writable, Bytes, IsWritten}
 use Rattle.book.proofs.Accepting.{laid-read}
@@ -18,6 +18,15 @@ use Rattle.book.proofs.Writing.{written-read, written-form, written-min
 
 pub read-one : (s : List ℕ) (b b′ : Book) → b ≡ bookOf s → b′ ≡ bookOf s → b ≡ b′
 read-one s b b′ e e′ = e ∙ sym e′
+
+pub sections-one : (s : List ℕ) (b b′ : Book) → b ≡ sectionsOf s → b′ ≡ sectionsOf s → b ≡ b′
+sections-one s b b′ e e′ = e ∙ sym e′
+
+pub ended-one : (s : List ℕ) (end : ℕ) (x b b′ : Book) → b ≡ bookEnds s end x → b′ ≡ bookEnds s end x → b ≡ b′
+ended-one s end x b b′ e e′ = e ∙ sym e′
+
+pub refused-one : (n place : ℕ) (b b′ : Book) → b ≡ refusedBook n place → b′ ≡ refusedBook n place → b ≡ b′
+refused-one n place b b′ e e′ = e ∙ sym e′
 
 pub part-one : (s : List ℕ) (at n : ℕ) (p p′ : List ℕ) → p ≡ partOf s at n → p′ ≡ partOf s at n → p ≡ p′
 part-one s at n p p′ e e′ = e ∙ sym e′

@@ -152,6 +152,14 @@ module _ (s : List ℕ) (n : ℕ) (long : longest < n) (more : n ≤ length s) w
       ∙ end-same (eventsEnd (sectionsOf s)) (sectionsOf s) (λ z. omega (arith, sections-short s z))
 
 -- the first n bytes, where n is more than the longest book has, get the answer of all
+pub prefix-sections : (s : List ℕ) (n : ℕ) → longest < n → sectionsOf (take n s) ≡ sectionsOf s
+unfolding cut
+prefix-sections s n long = either (decLt n (length s))
+  where
+    either : Dec (n < length s) → sectionsOf (take n s) ≡ sectionsOf s
+    either (yes q) = sections-same s n long (omega arith)
+    either (no q) = ap sectionsOf (take-all n s (omega arith))
+
 pub prefix-read : (s : List ℕ) (n : ℕ) → longest < n → bookOf (take n s) ≡ bookOf s
 unfolding cut
 prefix-read s n long = either (decLt n (length s))

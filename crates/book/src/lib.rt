@@ -24,7 +24,7 @@ fn word_at(s: &[u8], at: usize) -> usize
     cells::wide(s[at]) + 256 * cells::wide(s[at + 1])
 }
 
-fn refused(number: u16, place: usize) -> Book
+pub fn refused(number: u16, place: usize) -> Book
     ensures { λ r. ⌜ r ≡ refusedBook number place ⌝ }
 {
     let settings = Settings {
@@ -174,8 +174,8 @@ fn read_settings(s: &[u8], at: usize) -> Book
     read_mines(s, at, settings)
 }
 
-// The three sections, up to the last event, or their first fault with the byte place.
-fn read_sections(s: &[u8]) -> Book
+// The three sections, up to the last event, or their first fault with the byte place. What follows them is not read.
+pub fn read_sections(s: &[u8]) -> Book
     ensures { λ r. ⌜ r ≡ sectionsOf (now (s .entry)) ⌝ }
 {
     if s.len() < 1 {
@@ -193,7 +193,7 @@ fn read_sections(s: &[u8]) -> Book
 }
 
 // The book `b`, whose last section ends at `end`, unless bytes are left over.
-fn ended(s: &[u8], end: usize, b: Book) -> Book
+pub fn ended(s: &[u8], end: usize, b: Book) -> Book
     ensures { λ r. ⌜ r ≡ bookEnds (now (s .entry)) end b ⌝ }
 {
     if b.number != 0 {

@@ -1,5 +1,5 @@
 -- The game of an accepted book at its beginning: the board that its mine list gives, and its lawful desk.
-use mathlib.Core.Path.{_≡_, _∙_, ap, sym, subst, subst⁻¹}
+use mathlib.Core.Path.{_≡_, _∙_, ap, sym, refl, subst, subst⁻¹}
 use mathlib.Core.Bool.{true}
 use mathlib.Core.List.{List, _++_}
 use Prim.Native.Nat.{ℕ, _+_, _*_}
@@ -10,15 +10,16 @@ use Rattle.rules.specs.declared.Book.{Book}
 use Rattle.rules.specs.declared.Position.{Position}
 use Rattle.rules.specs.Board.{numbered, numberedAt, numberingRefusal}
 use Rattle.rules.specs.Lent.{workRoom}
-use Rattle.rules.specs.Clicks.{desk}
+use Rattle.rules.specs.Clicks.{desk, done}
 use Rattle.rules.specs.Calls.{Numbered, numberingOf, cellsIn, freshDesk}
-use Rattle.rules.specs.Book.{bookOf, minesOf, partOf}
-use Rattle.rules.specs.Printout.{bookBoard, bookDesk}
+use Rattle.rules.specs.Book.{bookOf, minesOf, eventsOf, partOf}
+use Rattle.rules.specs.Printout.{bookBoard, bookDesk, bookEnd}
 use Rattle.cells.specs.Ground.{Mined}
 use Rattle.keep.specs.Kept.{Accepted, LawfulAt}
 use Rattle.cells.proofs.Face.{values-valued}
 use Rattle.keep.proofs.Lawful.{board-accepted}
 use Rattle.keep.proofs.Fresh.{fresh-lawful}
+use Rattle.keep.proofs.Step.{plays-follow}
 use Rattle.cells.proofs.Words.{inOrder-length}
 use Rattle.numbering.proofs.Numbering.{numbered-accepted}
 use Rattle.book.proofs.Accepting.{mines-part}
@@ -75,3 +76,8 @@ module _ (s : List ℕ) (b : Book) (e : b ≡ bookOf s) (z : b .number ≡ 0) wh
   -- its fresh desk is lawful
   pub book-lawful : LawfulAt (bookBoard s b) (bookDesk s b)
   book-lawful = fresh-lawful (bookBoard s b) (b .settings) mined (passed .numbers)
+
+  -- and so is the desk after its last event
+  pub end-lawful : LawfulAt (bookBoard s b) (bookEnd s b)
+  end-lawful =
+      plays-follow (bookBoard s b) (eventsOf s b) (bookDesk s b) (done 0 (bookDesk s b)) (record { lawful = book-lawful; settings = refl; told = λ t. t }) .lawful

@@ -18,4 +18,6 @@ pub mod Picture
 pub mod Noflag
 pub mod Slides
 pub mod Trainer
+pub mod Claims
 pub mod Positions
+pub mod Visits

@@ -92,7 +92,7 @@ eqz (pos m) (negsuc n) = false
 eqz (negsuc m) (pos n) = false
 eqz (negsuc m) (negsuc n) = eqb m n
 
-same : {A : Type 0} → (A → A → Bool) → List A → List A → Bool
+unfoldable pub same : {A : Type 0} → (A → A → Bool) → List A → List A → Bool
 same eq [] [] = true
 same eq (x ∷ xs) [] = false
 same eq [] (y ∷ ys) = false
@@ -409,13 +409,13 @@ pub record Said : Type 0 where
   pub says : List ℕ
 
 -- the names of the rows that do not hold
-pub wrongSaid : List Said → List ℕ
+unfoldable pub wrongSaid : List Said → List ℕ
 wrongSaid [] = []
 wrongSaid (t ∷ ts) =
     let more = wrongSaid ts in
     pick (same eqb (t .gives) (t .says)) more (t .name ∷ more)
 
-said : ℕ → List ℕ → List ℕ → Said
+unfoldable pub said : ℕ → List ℕ → List ℕ → Said
 said n gives says = record { name = n; gives = gives; says = says }
 
 -- answer, game and mouse state after each event, and the nine counts at the end

@@ -163,6 +163,21 @@ pub struct Advice {
     pub score: Score,
 }
 
+// What is said of a visiting book and its claims; events and claims are numbered from 1.
+pub enum Verdict {
+    Accepted,
+    Refused { number: u16, place: usize },
+    EventRefused { event: u32 },
+    NotEnded,
+    ClaimDiffers { claim: u32, says: u32, is: u32 },
+}
+
+// What a book without claims gets: the verdict on it, and its claims section.
+pub struct Claim {
+    pub verdict: Verdict,
+    pub section: [u8; 38],
+}
+
 pub fn game_number(g: GameState) -> u8
     ensures { λ r. ⌜ r ≡ gameNumber g ⌝ }
 {

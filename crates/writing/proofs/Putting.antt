@@ -52,6 +52,13 @@ module _ {text : List ℕ} {at : ℕ} {out : List ℕ} (room : Room text at out)
 pub put-over : {text out out′ : List ℕ} {r : ℕ} → length text ≤ length out → Put text 0 out out′ r → out′ ≡ over text out
 put-over h p = rw zero-add at (put-reads (record { fits = omega arith }) p)
 
+-- written from the front on, the text is what stands before the place after it
+pub put-front : {text out out′ : List ℕ} {r : ℕ} → length text ≤ length out → Put text 0 out out′ r → (r ≤ length out′) × (take r out′ ≡ text)
+put-front {text} {out} {out′} h p =
+    let n = p .next in
+    let l = put-length p in
+    (omega arith, ap (λ (k : ℕ). take k out′) (n ∙ zero-add (length text)) ∙ put-found (record { fits = omega arith }) p)
+
 -- any two outcomes are equal
 pub put-one : {text : List ℕ} {at r q : ℕ} {out a b : List ℕ} → Put text at out a r → Put text at out b q → (a ≡ b) × (r ≡ q)
 put-one p q = (p .same ∙ sym (q .same), p .next ∙ sym (q .next))

@@ -1,0 +1,4 @@
+pub mod Rows
+pub mod Checks
+pub mod Writes
+pub mod Longer
