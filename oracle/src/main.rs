@@ -73,11 +73,14 @@ fn run(words: &[&str]) -> Outcome {
     match words {
         ["play"] => write(printout(&input()?).as_bytes()),
         ["positions"] => Ok(positions::agree()),
-        ["books", seed, count] => write_books(number(seed)?, number(count)?, Kind::Mixed),
-        ["books", seed, count, kind] => write_books(number(seed)?, number(count)?, kind_named(kind)?),
+        ["books", seed, count] => made(seed, count, |seed, i| books::book(seed, i, Kind::Mixed)),
+        ["books", seed, count, kind] => {
+            let kind = kind_named(kind)?;
+            made(seed, count, |seed, i| books::book(seed, i, kind))
+        }
         ["answers"] => answers(printout),
         ["answers", "--sum"] => answers(sum),
-        ["noflag-books", seed, count] => write_noflag_books(number(seed)?, number(count)?),
+        ["noflag-books", seed, count] => made(seed, count, noflag::book),
         ["noflag-answers"] => answers(noflag::printout),
         ["scrub-words", seed, case] => write(slider::words(number(seed)?, number(case)?, &input()?).as_bytes()),
         ["scrub-told", words @ ..] => write(slider::told(&input()?, words)?.as_bytes()),
@@ -89,12 +92,12 @@ fn run(words: &[&str]) -> Outcome {
         ["coverage", seed, count] => cover(number(seed)?, number(count)?, Kind::Mixed),
         ["coverage", seed, count, kind] => cover(number(seed)?, number(count)?, kind_named(kind)?),
         ["draws"] => answers(picture::draw),
-        ["pictures", seed, count] => write_pictures(number(seed)?, number(count)?),
+        ["pictures", seed, count] => made(seed, count, pictures::picture),
         ["views"] => answers(picture::view),
         ["hints"] => answers(trainer::hint_of_book),
-        ["practices", seed, count] => write_practices(number(seed)?, number(count)?),
+        ["practices", seed, count] => made(seed, count, lessons::practice),
         ["lessons"] => answers(trainer::practice),
-        ["visits", seed, count] => write_visits(number(seed)?, number(count)?),
+        ["visits", seed, count] => made(seed, count, claims::visiting),
         ["verdicts"] => answers(claims::check),
         ["claims"] => written(claims::claim),
         _ => Err(USAGE.into()),
@@ -113,42 +116,12 @@ fn start_named(word: &str) -> Result<Start, String> {
     Start::named(word).ok_or(format!("{word} is not a start of steps"))
 }
 
-fn write_books(seed: u64, count: u64, kind: Kind) -> Outcome {
+/// As many packed inputs as are asked for, made by seed and number.
+fn made(seed: &str, count: &str, of: impl Fn(u64, u64) -> Vec<u8>) -> Outcome {
+    let (seed, count) = (number(seed)?, number(count)?);
     let mut packed = Vec::new();
-    for number in 0..count {
-        packed::pack(&mut packed, &books::book(seed, number, kind));
-    }
-    write(&packed)
-}
-
-fn write_noflag_books(seed: u64, count: u64) -> Outcome {
-    let mut packed = Vec::new();
-    for number in 0..count {
-        packed::pack(&mut packed, &noflag::book(seed, number));
-    }
-    write(&packed)
-}
-
-fn write_pictures(seed: u64, count: u64) -> Outcome {
-    let mut packed = Vec::new();
-    for number in 0..count {
-        packed::pack(&mut packed, &pictures::picture(seed, number));
-    }
-    write(&packed)
-}
-
-fn write_practices(seed: u64, count: u64) -> Outcome {
-    let mut packed = Vec::new();
-    for number in 0..count {
-        packed::pack(&mut packed, &lessons::practice(seed, number));
-    }
-    write(&packed)
-}
-
-fn write_visits(seed: u64, count: u64) -> Outcome {
-    let mut packed = Vec::new();
-    for number in 0..count {
-        packed::pack(&mut packed, &claims::visiting(seed, number));
+    for i in 0..count {
+        packed::pack(&mut packed, &of(seed, i));
     }
     write(&packed)
 }
