@@ -495,7 +495,7 @@ dragged s n k long =
     dragOf s n k (emptied (replicate long 0)) (record { mines = replicate 3 (pos 0); shown = replicate 3 0; bits = 0 ∷ []; work = replicate 32 0 }) .number ∷ []
 
 -- 1×3, mine (0,1), and these events
-recorded : ℕ → List ℕ → List ℕ
+unfoldable pub recorded : ℕ → List ℕ → List ℕ
 recorded n events = 4 ∷ 1 ∷ 3 ∷ 0 ∷ 0 ∷ 1 ∷ 0 ∷ 0 ∷ 1 ∷ n ∷ 0 ∷ events
 
 worked-book : List ℕ

@@ -19,7 +19,7 @@ use Rattle.rules.specs.Calls.{modeOk, plays, lastPlay}
 use Rattle.rules.specs.Book.{eventsFrom, minesFrom, minesSection, settingsSection, sectionsOf, bookEnds, bookOf, minesOf, eventsOf}
 use Rattle.rules.specs.Printout.{digits, spaced, wordRefused, wordAtPlace}
 use Rattle.rules.specs.Claims.{verdictNumber, verdictValues, claimsSection, claimedBookOf, claimAt, eventsJudged, claimsJudged, checkBy, checkOf, claimBy, claimOf, fours, claimsOf, wordAccepted, wordEvent, wordClaim, wordSays, wordIs, verdictLine, claimTextOf}
-use Rattle.rules.specs.Positions.{same, Said, said, wrongSaid}
+use Rattle.rules.specs.Positions.{same, Said, said, wrongSaid, recorded}
 
 -- a verdict's number, then its values: the checker's, and the second program's
 checks : ℕ → List ℕ → List ℕ → Said
@@ -28,17 +28,13 @@ checks n s says = said n (verdictNumber (checkOf s) ∷ verdictValues (checkOf s
 claims : ℕ → List ℕ → List ℕ → Said
 claims n s says = said n (verdictNumber (claimOf s) ∷ verdictValues (claimOf s)) says
 
--- 1 × 3, mine (0,1), and so many events
-threeCells : ℕ → List ℕ → List ℕ
-threeCells n events = 4 ∷ 1 ∷ 3 ∷ 0 ∷ 0 ∷ 1 ∷ 0 ∷ 0 ∷ 1 ∷ n ∷ 0 ∷ events
-
 -- the worked book, open (0,0), flag (0,1), open (0,2), but for the code of its last event, which is 1; 29 bytes
 lastBy : ℕ → List ℕ
-lastBy code = threeCells 6 (0 ∷ 0 ∷ 0 ∷ 1 ∷ 0 ∷ 0 ∷ 2 ∷ 0 ∷ 1 ∷ 3 ∷ 0 ∷ 1 ∷ 0 ∷ 0 ∷ 2 ∷ code ∷ 0 ∷ 2 ∷ [])
+lastBy code = recorded 6 (0 ∷ 0 ∷ 0 ∷ 1 ∷ 0 ∷ 0 ∷ 2 ∷ 0 ∷ 1 ∷ 3 ∷ 0 ∷ 1 ∷ 0 ∷ 0 ∷ 2 ∷ code ∷ 0 ∷ 2 ∷ [])
 
 -- its first two events, 17 bytes
 twoEvents : List ℕ
-twoEvents = threeCells 2 (0 ∷ 0 ∷ 0 ∷ 1 ∷ 0 ∷ 0 ∷ [])
+twoEvents = recorded 2 (0 ∷ 0 ∷ 0 ∷ 1 ∷ 0 ∷ 0 ∷ [])
 
 -- 1 × 3, mine (0,0), by the league's rules 2: open (0,1), rc (0,1), r (0,1), rc (0,0), which flags, since r released
 byRules2 : List ℕ
@@ -82,7 +78,7 @@ visits =
     ∷ claims 17 claimedBook (43 ∷ 29 ∷ [])
     ∷ claims 18 (lastBy 99) (81 ∷ 6 ∷ [])
     ∷ claims 19 twoEvents (82 ∷ [])
-    ∷ claims 20 (threeCells 0 []) (82 ∷ [])
+    ∷ claims 20 (recorded 0 []) (82 ∷ [])
     -- a number in four bytes; what it writes
     ∷ said 21 (fours (67305985 ∷ [])) (1 ∷ 2 ∷ 3 ∷ 4 ∷ [])
     ∷ said 22 (claimTextOf (lastBy 1)) claimedBook
@@ -96,7 +92,7 @@ visits =
     ∷ []
 
 pub visiting-books : wrongSaid visits ≡ []
-unfolding wrongSaid said visits checks claims threeCells lastBy twoEvents byRules2 behindCount claimedBook same count every firstNot inOrder stackOf rounds mouseAt sizeOk ninth cellBefore neighbour
+unfolding wrongSaid said visits checks claims recorded lastBy twoEvents byRules2 behindCount claimedBook same count every firstNot inOrder stackOf rounds mouseAt sizeOk ninth cellBefore neighbour
     around cellsIf pushed zeroAt loneAt mineOk listedMine numberedAt numbered bitAt withBit shownAfter stackAfter hitAfter run crossed refreshed countShown freeAt kind walk walkFrom
     judgedLeft judgeOne tally openingsJudged lones safeIn ended solvesLeft leftOpens leftClick bitsWith addsRce takeBack chordIsUseful chordOpens performChord
     passesAfterFlag passesAfterChord rightClick chordingClick mouseTable nextMouse moved bothDown rulesOk resolved flipped seenAt leftAt rightAt chordAt chordFrom
