@@ -1,1 +1,2 @@
 // Laws only: the automatic passes never lose a right game by themselves (specs/Harmless.antt).
+#![tactic(auto)]

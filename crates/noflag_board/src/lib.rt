@@ -1,6 +1,7 @@
 // THE FACE OF THE NO-FLAG CLASS: its setup, its step, which takes toggles too, and its book reading; reset is the board's. No public function has a
 // `requires`: for every input its contract, one equation of rules' specs/Noflag.antt, determines the answer, the position, the value and every
 // lent list.
+#![tactic(auto)]
 ghost use Rattle.std.specs.Prelude.{◌≡◌, ltb};
 ghost use Rattle.rules.specs.Clicks.{desk};
 ghost use Rattle.rules.specs.Step.{pointer_of};

@@ -1,6 +1,7 @@
 // The refusals 20 to 264, found before anything is written, and what is answered for them. A function whose answer is a number gives the first
 // that applies, or 0. The contracts cite rules' Calls; specs/Rows.antt has the table of all refusals, and proofs/Places.antt that each stands in
 // its place.
+#![tactic(auto)]
 ghost use Rattle.std.specs.Prelude.{◌≡◌, true, ◌*◌, length};
 ghost use Rattle.rules.specs.Words.{unless};
 ghost use Rattle.rules.specs.Clicks.{desk};

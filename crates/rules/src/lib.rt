@@ -1,5 +1,7 @@
 // The game's nouns: the position by value, the event whose cases hold a pointer, the answers; and the position with one part changed.
 // The contracts cite specs/States.antt, which gives document 01's number for every state.
+#![tactic(auto)]
+
 ghost use Rattle.std.specs.Prelude.{◌≡◌};
 ghost use Rattle.rules.specs.States.{game_number, game_at, mouse_number, mouse_at, with_game, with_mouse, with_middle, with_preflags, with_events, with_left, with_right, with_double, with_lce, with_dce, with_flag, with_unopened, with_rce, with_solved_left, with_solved_chord, zeroed, fresh_of};
 ghost use Rattle.rules.specs.Board.{row_byte, column_byte};
@@ -225,6 +227,7 @@ pub fn mouse_number(m: MouseState) -> u8
     }
 }
 
+#[tactic(auto, unfolding(crate::specs::States::game_at))]
 pub fn game_at(n: u8) -> GameState
     ensures { result ≡ game_at n }
 {
@@ -237,6 +240,7 @@ pub fn game_at(n: u8) -> GameState
     }
 }
 
+#[tactic(auto, unfolding(crate::specs::States::mouse_at))]
 pub fn mouse_at(n: u8) -> MouseState
     ensures { result ≡ mouse_at n }
 {
