@@ -15,7 +15,7 @@ ghost use Rattle.brief.specs.Briefly.{Plainly, Briefly};
 use rules::{GameState, Played, Pointer, Position};
 
 // A brief event, played; or any other, not played yet.
-#[derive(Drop)]
+#[derive(Clone, Copy)]
 pub enum Brief {
     Done(Played),
     Other,

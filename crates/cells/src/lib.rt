@@ -83,7 +83,7 @@ pub fn face_at(mines: &[i8], cell: usize) -> u8
 }
 
 // How many neighbours of a cell show 11, and how many 10.
-#[derive(Drop)]
+#[derive(Clone, Copy)]
 pub struct Around {
     pub flags: u8,
     pub closed: u8,

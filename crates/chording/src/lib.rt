@@ -15,7 +15,7 @@ ghost use Rattle.chording.specs.Scanning.{yes, scan, Scans};
 use rules::{GameState, Position};
 
 // A position, whether this scan opened something, and whether this pass did.
-#[derive(Drop)]
+#[derive(Clone, Copy)]
 pub struct Scanned {
     pub position: Position,
     pub any: bool,

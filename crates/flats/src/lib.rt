@@ -9,7 +9,7 @@ use rules::{Answer, Book, Counts, Place, Position, Secrets, Settings, Value};
 
 // The position, with its states as bytes: 56 bytes without padding, so that a refusal can give every one of them back. `double` is a word of C.
 #[repr(C)]
-#[derive(Drop)]
+#[derive(Clone, Copy)]
 pub struct FlatPosition {
     pub rows: u8,
     pub columns: u8,
@@ -35,7 +35,7 @@ pub struct FlatPosition {
 
 // What a call on a position answers: 64 bytes without padding. The place is two bytes, 255 255 where there is none.
 #[repr(C)]
-#[derive(Drop)]
+#[derive(Clone, Copy)]
 pub struct FlatAnswer {
     pub number: u16,
     pub row: u8,
@@ -46,7 +46,7 @@ pub struct FlatAnswer {
 
 // What a call without one answers: 8 bytes, which pass in one register on x86-64 and on aarch64.
 #[repr(C)]
-#[derive(Drop)]
+#[derive(Clone, Copy)]
 pub struct FlatValue {
     pub number: u16,
     pub row: u8,
@@ -56,7 +56,7 @@ pub struct FlatValue {
 
 // What a book says, or its first fault.
 #[repr(C)]
-#[derive(Drop)]
+#[derive(Clone, Copy)]
 pub struct FlatBook {
     pub number: u16,
     pub rows: u8,

@@ -12,7 +12,7 @@ ghost use Rattle.games.specs.Events.{EventsFit, EventsPrinted, GamePrinted};
 use rules::{Book, Played, Position};
 
 // Where the text has come to, what the last event answered, 0 where there is none, and the position that it left.
-#[derive(Drop)]
+#[derive(Clone, Copy)]
 pub struct Told {
     pub at: usize,
     pub answer: u16,

@@ -13,7 +13,7 @@ ghost use Rattle.gliding.specs.Glides.{gliding, glide_of, Stops, Rows};
 use rules::Position;
 
 // Where a drag stands: at which event, the last answer, the position, and how many desks are kept.
-#[derive(Drop)]
+#[derive(Clone, Copy)]
 pub struct Glided {
     pub at: usize,
     pub answer: u16,

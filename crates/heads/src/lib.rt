@@ -6,7 +6,7 @@ ghost use Rattle.rules.specs.Picture.{is_marked, height_of, maximum_of, rest_of,
 ghost use Rattle.heads.specs.Headed.{Headed};
 
 // The first fault, 0 for none; the rows and the columns, and the place after what was read.
-#[derive(Drop)]
+#[derive(Clone, Copy)]
 pub struct Head {
     pub number: u16,
     pub rows: u8,

@@ -86,7 +86,7 @@ fn mark_zero(work: &mut [u16], rows: usize, columns: usize, cell: usize, top: us
 }
 
 // Where the stack's top stands, and whether no flag was met.
-#[derive(Drop)]
+#[derive(Clone, Copy)]
 pub struct Turn {
     pub top: usize,
     pub whole: bool,
@@ -170,7 +170,7 @@ pub fn cell_is_op_completed(
 }
 
 // Openings counted, and whether a walk was made.
-#[derive(Drop)]
+#[derive(Clone, Copy)]
 pub struct Sum {
     pub count: usize,
     pub walked: bool,

@@ -12,7 +12,7 @@ ghost use Rattle.lawful.specs.Parts.{Counted, OneMore, Checkable, cells_lawful, 
 use rules::{GameState, MouseState, Position};
 
 // How many cells show 0 to 8, and how many 11, 14 and 15.
-#[derive(Drop)]
+#[derive(Clone, Copy)]
 pub struct Census {
     pub opens: u32,
     pub flags: u32,

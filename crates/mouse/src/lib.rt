@@ -233,7 +233,7 @@ fn plain(p: Position, code: u8, x: Pointer) -> Event
 }
 
 // An event with l, r and m resolved: the plain event, and the middle flag, which m flips.
-#[derive(Drop)]
+#[derive(Clone, Copy)]
 pub struct Resolved {
     pub event: Event,
     pub middle: bool,

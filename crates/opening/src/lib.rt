@@ -14,7 +14,7 @@ ghost use Rattle.opening.specs.Quick.{front, touched, touched_around, touched_al
 ghost use Rattle.opening.specs.Parts.{Spare, Roomy, Seated, Moved, Worked, opened};
 
 // Where the stack's top is, whether a mine was hit, and how many cells were opened.
-#[derive(Drop)]
+#[derive(Clone, Copy)]
 pub struct Turn {
     pub top: usize,
     pub hit: bool,
@@ -22,7 +22,7 @@ pub struct Turn {
 }
 
 // What an opening did: whether it hit a mine, and how many cells went from closed to showing 0 to 8.
-#[derive(Drop)]
+#[derive(Clone, Copy)]
 pub struct Outcome {
     pub hit: bool,
     pub opened: u32,

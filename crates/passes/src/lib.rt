@@ -10,7 +10,7 @@ ghost use Rattle.passes.specs.Passing.{round, going};
 use rules::Position;
 
 // A position, and whether the chord pass changed something while the game goes on.
-#[derive(Drop)]
+#[derive(Clone, Copy)]
 pub struct Passed {
     pub position: Position,
     pub any: bool,

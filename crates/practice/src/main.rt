@@ -11,7 +11,7 @@ use libc::{STDIN_FILENO, STDOUT_FILENO};
 use rules::{Place, Score};
 
 // The score after a call, and how many bytes its line has.
-#[derive(Drop)]
+#[derive(Clone, Copy)]
 struct Told {
     score: Score,
     long: usize,

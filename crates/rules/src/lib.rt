@@ -6,7 +6,7 @@ ghost use Rattle.std.specs.Prelude.{◌≡◌};
 ghost use Rattle.rules.specs.States.{game_number, game_at, mouse_number, mouse_at, with_game, with_mouse, with_middle, with_preflags, with_events, with_left, with_right, with_double, with_lce, with_dce, with_flag, with_unopened, with_rce, with_solved_left, with_solved_chord, zeroed, fresh_of};
 ghost use Rattle.rules.specs.Board.{row_byte, column_byte};
 
-#[derive(Drop)]
+#[derive(Clone, Copy)]
 pub enum GameState {
     Ready,
     Playing,
@@ -16,7 +16,7 @@ pub enum GameState {
 }
 
 // The left and the right button, up or down.
-#[derive(Drop)]
+#[derive(Clone, Copy)]
 pub enum MouseState {
     UpUp,
     UpDown,
@@ -27,21 +27,21 @@ pub enum MouseState {
     DownUpAfterChording,
 }
 
-#[derive(Drop)]
+#[derive(Clone, Copy)]
 pub enum Pointer {
     Cell { row: u8, column: u8 },
     Off,
 }
 
 // The pointer of two bytes: a cell, or exactly (rows, columns), else none.
-#[derive(Drop)]
+#[derive(Clone, Copy)]
 pub enum Decoded {
     At(Pointer),
     Bad,
 }
 
 // A plain event: l, r and m are resolved before one is made.
-#[derive(Drop)]
+#[derive(Clone, Copy)]
 pub enum Event {
     Lc(Pointer),
     Lr(Pointer),
@@ -56,7 +56,7 @@ pub enum Event {
 }
 
 // The league's rules are a number and no enum, since every byte is taken: 1 and 2 are allowed.
-#[derive(Drop)]
+#[derive(Clone, Copy)]
 pub struct Settings {
     pub rows: u8,
     pub columns: u8,
@@ -66,7 +66,7 @@ pub struct Settings {
 }
 
 // What a display may be handed during a game.
-#[derive(Drop)]
+#[derive(Clone, Copy)]
 pub struct Counts {
     pub left: u32,
     pub right: u32,
@@ -79,14 +79,14 @@ pub struct Counts {
 }
 
 // The counts that know hidden mines: shown only after the game.
-#[derive(Drop)]
+#[derive(Clone, Copy)]
 pub struct Secrets {
     pub rce: u32,
     pub solved_left: u32,
     pub solved_chord: u32,
 }
 
-#[derive(Drop)]
+#[derive(Clone, Copy)]
 pub struct Position {
     pub settings: Settings,
     pub game: GameState,
@@ -99,21 +99,21 @@ pub struct Position {
 }
 
 // What an action of the hand answers, and the position that it leaves.
-#[derive(Drop)]
+#[derive(Clone, Copy)]
 pub struct Played {
     pub answer: u16,
     pub position: Position,
 }
 
 // Where the fault is that a refusal is for: a cell beside 22 and 23, and beside no other number.
-#[derive(Drop)]
+#[derive(Clone, Copy)]
 pub enum Place {
     Nowhere,
     At { row: u8, column: u8 },
 }
 
 // What a public call answers: a number with its place, the position, and beside them the value asked for, 0 where none is.
-#[derive(Drop)]
+#[derive(Clone, Copy)]
 pub struct Answer {
     pub number: u16,
     pub place: Place,
@@ -122,7 +122,7 @@ pub struct Answer {
 }
 
 // What a public call without a position answers.
-#[derive(Drop)]
+#[derive(Clone, Copy)]
 pub struct Value {
     pub number: u16,
     pub place: Place,
@@ -130,14 +130,14 @@ pub struct Value {
 }
 
 // Cells of the board, at most eight, in row order.
-#[derive(Drop)]
+#[derive(Clone, Copy)]
 pub struct Cells {
     pub at: [u16; 8],
     pub n: usize,
 }
 
 // What a book says: its settings, and where its mines and its events stand; or the first fault, with its byte place.
-#[derive(Drop)]
+#[derive(Clone, Copy)]
 pub struct Book {
     pub number: u16,
     pub place: usize,
@@ -149,7 +149,7 @@ pub struct Book {
 }
 
 // What a picture says: its rows and its columns; or the first fault.
-#[derive(Drop)]
+#[derive(Clone, Copy)]
 pub struct Picture {
     pub number: u16,
     pub rows: u8,
@@ -157,7 +157,7 @@ pub struct Picture {
 }
 
 // What a question is answered: a cell to open with its number's cell, nothing to show, or the number of a refusal.
-#[derive(Drop)]
+#[derive(Clone, Copy)]
 pub enum Hint {
     Cell {
         row: u8,
@@ -170,7 +170,7 @@ pub enum Hint {
 }
 
 // Hints asked for, hints followed, and the latest hint's cell if it lives.
-#[derive(Drop)]
+#[derive(Clone, Copy)]
 pub struct Score {
     pub asked: u16,
     pub followed: u16,
@@ -178,14 +178,14 @@ pub struct Score {
 }
 
 // What a question gives: the hint, and the score after it.
-#[derive(Drop)]
+#[derive(Clone, Copy)]
 pub struct Advice {
     pub hint: Hint,
     pub score: Score,
 }
 
 // What is said of a visiting book and its claims; events and claims are numbered from 1.
-#[derive(Drop)]
+#[derive(Clone, Copy)]
 pub enum Verdict {
     Accepted,
     Refused { number: u16, place: usize },
@@ -195,7 +195,7 @@ pub enum Verdict {
 }
 
 // What a book without claims gets: the verdict on it, and its claims section.
-#[derive(Drop)]
+#[derive(Clone, Copy)]
 pub struct Claim {
     pub verdict: Verdict,
     pub section: [u8; 38],

@@ -81,7 +81,7 @@ fn tell(g: Settings, o: Drag, shown: &[u8])
 
 // ---- the words -------------------------------------------------------------------------------------------------------------------------
 
-#[derive(Drop)]
+#[derive(Clone, Copy)]
 enum Word {
     Number(u32),
     Reset,
@@ -214,7 +214,7 @@ fn go(slider: Slider, s: &[u8], b: Book, n: u32, k: u32, room: &mut [u8]) -> Sli
 }
 
 // The slider after a word, and whether it was one.
-#[derive(Drop)]
+#[derive(Clone, Copy)]
 struct Turn {
     slider: Slider,
     more: bool,

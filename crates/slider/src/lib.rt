@@ -11,13 +11,13 @@ ghost use Rattle.slider.specs.Promises.{lent_of, dragged_by, dragged_on, OpenIs,
 
 use rules::{Book, Position, Settings};
 
-#[derive(Drop)]
+#[derive(Clone, Copy)]
 pub struct Slider {
     pub kept: usize,
 }
 
 // The book's own refusal with its byte place, or 0; and the slider.
-#[derive(Drop)]
+#[derive(Clone, Copy)]
 pub struct Opening {
     pub number: u16,
     pub place: usize,
@@ -25,7 +25,7 @@ pub struct Opening {
 }
 
 // The call's refusal, or 0, with the book's byte place; from which event the drag started, what `step_flow` answers, the position, and the slider.
-#[derive(Drop)]
+#[derive(Clone, Copy)]
 pub struct Drag {
     pub number: u16,
     pub place: usize,

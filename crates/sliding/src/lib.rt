@@ -16,7 +16,7 @@ use gliding::Glided;
 use rules::{Position, Settings};
 
 // From which event a drag started, and what it came to.
-#[derive(Drop)]
+#[derive(Clone, Copy)]
 pub struct Slid {
     pub start: usize,
     pub glided: Glided,

@@ -6,7 +6,7 @@ ghost use Rattle.rules.specs.Picture.{is_space, is_digit, is_gap, runs_on, skipp
 ghost use Rattle.tokens.specs.Taken.{counted, ended_at, Taken};
 
 // What is found where a number is due: its fault, 0 for none, its value as it is counted, and the place after it.
-#[derive(Drop)]
+#[derive(Clone, Copy)]
 pub struct Number {
     pub fault: u16,
     pub value: u8,

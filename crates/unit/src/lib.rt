@@ -8,7 +8,7 @@ use rules::{Advice, Hint, Place, Score};
 
 // The score: 6 bytes without padding. The latest hint's cell is two bytes, 255 255 where none lives.
 #[repr(C)]
-#[derive(Drop)]
+#[derive(Clone, Copy)]
 pub struct FlatScore {
     pub asked: u16,
     pub followed: u16,
@@ -18,7 +18,7 @@ pub struct FlatScore {
 
 // A hint: 6 bytes without padding. The cell and its number's cell are two bytes each, 255 255 where there is none.
 #[repr(C)]
-#[derive(Drop)]
+#[derive(Clone, Copy)]
 pub struct FlatHint {
     pub number: u16,
     pub row: u8,
@@ -29,7 +29,7 @@ pub struct FlatHint {
 
 // What a question gives: 12 bytes without padding.
 #[repr(C)]
-#[derive(Drop)]
+#[derive(Clone, Copy)]
 pub struct FlatAdvice {
     pub hint: FlatHint,
     pub score: FlatScore,

@@ -1,0 +1,8 @@
+-- `bench_drag::bench_drag` meets its contract: the slider's own.
+use mathlib.Core.Path.{ap}
+use Rattle.rules.specs.Slides.{Dragged}
+use borrow.Author.Rules.{rules}
+use Rattle.bench_drag.proofs.bench_drag.Goals as goal
+
+pub returns : goal.returns
+returns c = let e = c.drag_to-o.ensures in (ap (λ (o : Dragged). o.kept) e, ap (λ (o : Dragged). o.lent) e)

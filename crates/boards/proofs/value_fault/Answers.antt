@@ -1,0 +1,39 @@
+-- `boards::value_fault` meets its contract: the values before `cell` are right. Assumes nothing.
+use mathlib.Core.Path.{sym, ◌≡◌, refl}
+use mathlib.Core.Bool.{true}
+use Prim.Native.Nat.{◌≤◌, ◌-◌}
+use native.Mathlib.Omega.{arith}
+use borrow.Author.Rules.{rules}
+use borrow.Author.Tests.{not-true, not-false}
+use lib.ListN.{length, get_or}
+use lib.IntN.{pos}
+use Rattle.rules.specs.Board.{value_ok_at}
+use Rattle.rules.specs.Words.{every}
+use Rattle.cells.proofs.Words.{every_turn}
+use Rattle.cells.proofs.Firsts.{first_at, first_past}
+use Rattle.boards.proofs.Tests.{value_passed}
+use Rattle.boards.proofs.value_fault.Goals as goal
+
+pub loop-cell-init : goal.loop-cell-init
+unfolding every
+loop-cell-init c = (omega arith, refl)
+
+pub returns-then-not-value_ok : goal.returns-then-not-value_ok
+returns-then-not-value_ok c = let B = c.args.mines.now in
+    sym
+    (first_at (value_ok_at B) (length B) c.loop-cell.cell (search rules) c.loop-cell.invariant.1
+    (value_passed (get_or B c.loop-cell.cell (pos 0)) (record { sfits = c.value_ok-arg-1.given })
+    c.value_ok.ensures (not-true _ c.if-not-value_ok.true)))
+
+pub loop-cell-preserved : goal.loop-cell-preserved
+loop-cell-preserved c = let B = c.args.mines.now in (
+      search rules,
+      every_turn (value_ok_at B) c.loop-cell.cell
+          c.loop-cell.invariant.1
+          (value_passed (get_or B c.loop-cell.cell (pos 0)) (record { sfits = c.value_ok-arg-1.given })
+          c.value_ok.ensures (not-false _ c.if-not-value_ok.false)),
+    )
+
+pub returns : goal.returns
+returns c = let B = c.args.mines.now in
+    sym (first_past (value_ok_at B) (length B) c.loop-cell.cell (omega arith) (omega arith) c.loop-cell.invariant.1)

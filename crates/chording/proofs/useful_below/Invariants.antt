@@ -1,0 +1,14 @@
+-- `chording::useful_below` meets its contract. The loop: no row before this one has a useful cell.
+use Prim.Native.Nat.{◌*◌, ◌-◌, ◌≤◌}
+use native.Mathlib.Omega.{arith}
+use native.Mathlib.Nat.{mul-le-mul_right}
+use Rattle.rules.specs.Clicks.{chord_is_useful}
+use Rattle.cells.proofs.Grid.{cell_lt}
+use Rattle.chording.proofs.Seeking.{Sought, sought_start, sought_on, sought_first, sought_done, row_found, row_passed}
+use Rattle.chording.proofs.useful_below.Given as goal
+
+abbrev pub invariant-loop-row : goal.invariant-loop-row
+invariant-loop-row l = (l.row ≤ l.rows) × Sought (chord_is_useful l.rows l.columns l.shown) (l.from * l.columns) (l.rows * l.columns) (l.row * l.columns)
+
+abbrev pub decreases-loop-row : goal.decreases-loop-row
+decreases-loop-row l = l.rows - l.row

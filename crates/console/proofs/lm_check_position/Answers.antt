@@ -1,0 +1,7 @@
+-- `console::lm_check_position` meets its contract.
+use Rattle.console.proofs.Making.{position_flat_lem}
+use borrow.Author.Rules.{rules}
+use Rattle.console.proofs.lm_check_position.Goals as goal
+
+pub returns : goal.returns
+returns c = position_flat_lem _ _ _ _ _ c.position_for-p.ensures _ _ c.flat_value.ensures c.check_position-v.ensures

@@ -1,0 +1,6 @@
+-- `console::lm_number_mines` meets its contract.
+use borrow.Author.Rules.{rules}
+use Rattle.console.proofs.lm_number_mines.Goals as goal
+
+pub returns : goal.returns
+returns c = simp c.wide.ensures c.number_mines.ensures

@@ -1,0 +1,7 @@
+-- `console::lm_step` meets its contract.
+use Rattle.console.proofs.Making.{step_flat_lem}
+use borrow.Author.Rules.{rules}
+use Rattle.console.proofs.lm_step.Goals as goal
+
+pub returns : goal.returns
+returns c = step_flat_lem _ _ _ _ _ c.position_for-p.ensures _ _ c.answer_for.ensures _ _ _ _ _ _ _ c.step-a.ensures

@@ -1,0 +1,7 @@
+-- `console::lm_total_3bv` meets its contract.
+use Rattle.console.proofs.Making.{total_flat}
+use borrow.Author.Rules.{rules}
+use Rattle.console.proofs.lm_total_3bv.Goals as goal
+
+pub returns : goal.returns
+returns c = total_flat _ _ _ _ _ _ _ c.flat_value.ensures c.total_3bv-v.ensures

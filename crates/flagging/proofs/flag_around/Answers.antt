@@ -1,0 +1,31 @@
+-- `flagging::flag_around` meets its contract. The loop: the first k neighbours are flagged.
+use mathlib.Core.Path.{◌≡◌}
+use Prim.Native.Nat.{◌≤◌, ◌-◌}
+use native.Mathlib.Omega.{arith}
+use Rattle.rules.specs.Grid.{cell_of}
+use Rattle.flagging.specs.Scan.{flag_around}
+use Rattle.flagging.proofs.Scan.{Going, going_one, room_start, around_start, around_more}
+use Rattle.flagging.proofs.flag_around.Goals as goal
+
+pub loop-k-init : goal.loop-k-init
+loop-k-init c = (omega arith, around_start _ _ _ _ _ _ _)
+
+pub neighbour_at-q-requires : goal.neighbour_at-q-requires
+neighbour_at-q-requires c = record { sized = c.requires.flaggable.mined.sized; row_lt_rows = c.requires.row_lt_rows; k_bound = omega arith }
+
+pub flag_one-n-requires : goal.flag_one-n-requires
+flag_one-n-requires c = let pre = (c.requires.flaggable, c.requires.row_lt_rows) in let whole = going_one pre.0 (room_start pre.0) c.loop-k.invariant.1 in record { valued = whole.0; shown_len = whole.1.0; mines_len_bound = whole.1.1.0; shown_bound = whole.1.1.1 }
+
+pub loop-k-preserved : goal.loop-k-preserved
+loop-k-preserved c = let one = c.flag_one-n in
+    let pre = (c.requires.flaggable, c.requires.row_lt_rows) in
+    (omega arith, around_more one.auto.1.0 one.auto.1.1.0 _ _ _ _ _ _ _ pre.1.1 c.neighbour_at-q.ensures c.loop-k.invariant.1 one.ensures)
+
+pub shape_of-shown : goal.shape_of-shown
+shape_of-shown c = c.loop-k.invariant.1.board
+
+pub shape_of-bits : goal.shape_of-bits
+shape_of-bits c = c.loop-k.invariant.1.bytes
+
+pub returns : goal.returns
+returns c = let e : c.loop-k.k ≡ 8 = omega arith in rw e at c.loop-k.invariant.1.flags

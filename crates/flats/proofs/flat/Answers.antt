@@ -1,0 +1,6 @@
+-- `flats::flat` meets its contract.
+use borrow.Author.Rules.{rules}
+use Rattle.flats.proofs.flat.Goals as goal
+
+pub returns : goal.returns
+returns c = simp (c.byte.ensures, c.byte-2.ensures, c.game_number.ensures, c.mouse_number.ensures)

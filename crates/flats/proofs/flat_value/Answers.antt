@@ -1,0 +1,6 @@
+-- `flats::flat_value` meets its contract.
+use borrow.Author.Rules.{rules}
+use Rattle.flats.proofs.flat_value.Goals as goal
+
+pub returns : goal.returns
+returns c = simp (c.row_byte.ensures, c.column_byte.ensures)

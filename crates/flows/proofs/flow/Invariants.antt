@@ -1,0 +1,14 @@
+-- `flows::flow` meets its contract.
+use mathlib.Core.Path.{ap}
+use Prim.Native.Nat.{◌-◌}
+use native.Mathlib.Omega.{arith}
+use lib.ListN.{length}
+use Rattle.flows.proofs.Flows.{Flowing, flow_on_lem, flow_refused, flow_same, flow_cells, flow_bytes, event_left, flow_start, flow_end, blank_kept}
+use Rattle.flows.proofs.Runs.{flow_run}
+use Rattle.flows.proofs.flow.Given as goal
+
+abbrev pub invariant-loop-at : goal.invariant-loop-at
+invariant-loop-at l = Flowing l.mines l.events l.initial.at l.initial.o l.initial.shown l.initial.bits l.initial.work l.at l.o l.shown l.bits l.work
+
+abbrev pub decreases-loop-at : goal.decreases-loop-at
+decreases-loop-at l = length l.events - l.at

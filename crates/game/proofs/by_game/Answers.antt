@@ -1,0 +1,35 @@
+-- `game::by_game` meets its contract.
+use borrow.Author.Rules.{rules}
+use Rattle.cells.proofs.Contracts.{leaves_by, leaves_here}
+use Rattle.rules.specs.Step.{by_game}
+use Rattle.game.proofs.Steps.{lawful_asked}
+use Rattle.game.proofs.by_game.Goals as goal
+
+pub ready-requires : goal.ready-requires
+ready-requires c = let a = c.args in let h = (c.requires.lawful_at, (c.requires.blank, c.requires.inside_of)) in let k = lawful_asked _ a.p _ _ _ h.0 h.1.0 in record { able_at = k.able; inside_of = h.1.1; preflags_bound = k.few }
+
+pub pre_flaging-requires : goal.pre_flaging-requires
+pre_flaging-requires c = let a = c.args in let h = (c.requires.lawful_at, (c.requires.blank, c.requires.inside_of)) in let k = lawful_asked _ a.p _ _ _ h.0 h.1.0 in record { able_at = k.able; inside_of = h.1.1; le_right = k.held; preflags_bound = k.few; by_index = k.preflags c.in-PreFlaging.is }
+
+pub playing-requires : goal.playing-requires
+playing-requires c = let a = c.args in let h = (c.requires.lawful_at, (c.requires.blank, c.requires.inside_of)) in let k = lawful_asked _ a.p _ _ _ h.0 h.1.0 in record { able_at = k.able; inside_of = h.1.1; le_right = k.held }
+
+pub returns-in-Ready : goal.returns-in-Ready
+unfolding by_game
+returns-in-Ready c = leaves_by c.ready.ensures (simp c.in-Ready.is)
+
+pub returns-in-PreFlaging : goal.returns-in-PreFlaging
+unfolding by_game
+returns-in-PreFlaging c = leaves_by c.pre_flaging.ensures (simp c.in-PreFlaging.is)
+
+pub returns-in-Playing : goal.returns-in-Playing
+unfolding by_game
+returns-in-Playing c = leaves_by c.playing.ensures (simp c.in-Playing.is)
+
+pub returns-in-Win : goal.returns-in-Win
+unfolding by_game
+returns-in-Win c = leaves_here (simp (c.in-Win.is, c.answered.ensures))
+
+pub returns-in-Loss : goal.returns-in-Loss
+unfolding by_game
+returns-in-Loss c = leaves_here (simp (c.in-Loss.is, c.answered-in-Loss.ensures))

@@ -1,0 +1,7 @@
+-- `game::counted` meets its contract.
+use mathlib.Core.Path.{refl}
+use borrow.Author.Rules.{rules}
+use Rattle.game.proofs.counted.Goals as goal
+
+pub returns : goal.returns
+returns c = rw c.with_events-q.ensures refl

@@ -1,0 +1,21 @@
+-- `hint::write_book` meets its contract: a refused book has its printout handed over, an accepted one left its board.
+use mathlib.Core.Path.{sym}
+use lib.Seq.{length-take-le}
+use Rattle.hint.proofs.Hinted.{text_handed}
+use borrow.Author.Rules.{rules}
+use Rattle.hint.proofs.write_book.Goals as goal
+
+pub play_to_end-n-requires : goal.play_to_end-n-requires
+play_to_end-n-requires c = record { s_len_bound = c.requires; value = (c.shown_board-shown.ensures, c.text_room-text.ensures) }
+
+pub slice_bounds-text-end : goal.slice_bounds-text-end
+slice_bounds-text-end c = c.play_to_end-n.ensures.fits
+
+pub slice_bounds-hand-end : goal.slice_bounds-hand-end
+slice_bounds-hand-end c = sym (length-take-le _ _ c.play_to_end-n.ensures.fits)
+
+pub hand-requires : goal.hand-requires
+hand-requires c = text_handed c.args.s.now c.play_to_end-n.ensures c.read_book-b.result c.read_book-b.ensures c.if-b-ne0.true
+
+pub write_hint-requires : goal.write_hint-requires
+write_hint-requires c = record { b_value = (c.read_book-b.ensures, c.if-b-ne0.false); last = c.play_to_end-n.ensures.last _ c.read_book-b.ensures c.if-b-ne0.false }

@@ -1,0 +1,26 @@
+-- `lawful::byte_lawful` meets its contract: a byte that is 0 has no bit; else the bits passed are each clear or that of a mine.
+use mathlib.Core.Path.{◌≡◌, refl, ap, ◌∙◌}
+use Prim.Native.Nat.{◌+◌, ◌-◌, ◌*◌, ◌≤◌}
+use native.Mathlib.Omega.{arith}
+use borrow.Author.Rules.{rules}
+use Rattle.rules.specs.Words.{every}
+use Rattle.cells.proofs.Words.{every_more}
+use Rattle.lawful.specs.Parts.{bit_lawful}
+use Rattle.lawful.proofs.Scan.{byte_clear}
+use Rattle.lawful.proofs.byte_lawful.Goals as goal
+
+pub returns-then-bits-at-eq0 : goal.returns-then-bits-at-eq0
+returns-then-bits-at-eq0 c = byte_clear _ _ _ c.if-bits-at-eq0.true
+
+pub loop-k-init : goal.loop-k-init
+unfolding every
+loop-k-init c = (omega arith, refl)
+
+pub bit_lawful-fine-requires : goal.bit_lawful-fine-requires
+bit_lawful-fine-requires c = let pre = (c.requires.at_in_bounds, (c.requires.bits_len_bound, c.requires.valued)) in record { n_bound = omega (arith, pre.0); valued = pre.1.1 }
+
+pub loop-k-preserved : goal.loop-k-preserved
+loop-k-preserved c = let a = c.args in (omega arith, every_more (λ j. bit_lawful a.mines.now a.bits.now (8 * a.at + j)) _ _ _ c.loop-k.invariant.1 c.bit_lawful-fine.ensures)
+
+pub returns : goal.returns
+returns c = let a = c.args in c.loop-k.invariant.1 ∙ ap (every (λ j. bit_lawful a.mines.now a.bits.now (8 * a.at + j))) (omega arith)

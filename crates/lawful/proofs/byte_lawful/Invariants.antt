@@ -1,0 +1,16 @@
+-- `lawful::byte_lawful` meets its contract: a byte that is 0 has no bit; else the bits passed are each clear or that of a mine.
+use mathlib.Core.Path.{◌≡◌, refl, ap, ◌∙◌}
+use Prim.Native.Nat.{◌+◌, ◌-◌, ◌*◌, ◌≤◌}
+use native.Mathlib.Omega.{arith}
+use borrow.Author.Rules.{rules}
+use Rattle.rules.specs.Words.{every}
+use Rattle.cells.proofs.Words.{every_more}
+use Rattle.lawful.specs.Parts.{bit_lawful}
+use Rattle.lawful.proofs.Scan.{byte_clear}
+use Rattle.lawful.proofs.byte_lawful.Given as goal
+
+abbrev pub invariant-loop-k : goal.invariant-loop-k
+invariant-loop-k l = (l.k ≤ 8) × (l.all ≡ every (λ j. bit_lawful l.mines l.bits (8 * l.at + j)) l.k)
+
+abbrev pub decreases-loop-k : goal.decreases-loop-k
+decreases-loop-k l = 8 - l.k

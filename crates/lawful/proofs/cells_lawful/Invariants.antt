@@ -1,0 +1,17 @@
+-- `lawful::cells_lawful` meets its contract: every cell passed shows what it may.
+use mathlib.Core.Path.{◌≡◌}
+use mathlib.Core.Bool.{true}
+use Prim.Native.Nat.{◌≤◌, ◌-◌}
+use native.Mathlib.Omega.{arith}
+use borrow.Author.Tests.{not-true, not-false}
+use borrow.Author.Rules.{rules}
+use lib.ListN.{length}
+use Rattle.lawful.specs.Parts.{cells_lawful}
+use Rattle.lawful.proofs.Scan.{cells_none, cells_turn, cells_stop, cells_done}
+use Rattle.lawful.proofs.cells_lawful.Given as goal
+
+abbrev pub invariant-loop-i : goal.invariant-loop-i
+invariant-loop-i l = (l.i ≤ length l.shown) × (cells_lawful l.question l.loss l.mines l.shown l.i ≡ true)
+
+abbrev pub decreases-loop-i : goal.decreases-loop-i
+decreases-loop-i l = length l.shown - l.i

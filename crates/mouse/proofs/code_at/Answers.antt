@@ -1,0 +1,6 @@
+-- `mouse::code_at` meets its contract.
+use borrow.Author.Rules.{rules}
+use Rattle.mouse.proofs.code_at.Goals as goal
+
+pub returns : goal.returns
+returns c = simp (← c.mouse_number-m.ensures) c.resolve.ensures

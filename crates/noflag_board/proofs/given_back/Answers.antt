@@ -1,0 +1,9 @@
+-- `noflag_board::given_back` meets its contract.
+use borrow.Author.Tests.{le-leb, lt-leb}
+use Rattle.noflag_board.proofs.given_back.Goals as goal
+
+pub returns-then-a-ge20 : goal.returns-then-a-ge20
+returns-then-a-ge20 c = simp (le-leb _ _ c.if-a-ge20.true)
+
+pub returns : goal.returns
+returns c = simp (lt-leb _ _ c.if-a-ge20.false)

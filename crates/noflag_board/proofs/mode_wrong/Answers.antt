@@ -1,0 +1,6 @@
+-- `noflag_board::mode_wrong` meets its contract.
+use borrow.Author.Rules.{rules}
+use Rattle.noflag_board.proofs.mode_wrong.Goals as goal
+
+pub returns : goal.returns
+returns c = simp c.size_ok-size_right.ensures

@@ -1,0 +1,8 @@
+-- `noflag_console::lm_noflag_read_book` meets its contract.
+use mathlib.Core.Path.{ap, ◌∙◌}
+use borrow.Author.Rules.{rules}
+use Rattle.flats.specs.Flat.{flat_book}
+use Rattle.noflag_console.proofs.lm_noflag_read_book.Goals as goal
+
+pub returns : goal.returns
+returns c = c.flat_book.ensures ∙ ap flat_book c.read_book-b.ensures

@@ -1,0 +1,34 @@
+-- `numbering::number_cells` meets its contract: the first `i` cells are numbered, and the board stays one of its size and values. Assumes nothing.
+use mathlib.Core.Path.{◌≡◌, refl}
+use Prim.Native.Nat.{◌≤◌, ◌-◌, ◌*◌}
+use native.Mathlib.Omega.{arith}
+use borrow.Author.Rules.{rules}
+use Rattle.cells.specs.Ground.{Mined}
+use Rattle.numbering.specs.Numbering.{number_first}
+use Rattle.numbering.proofs.Numbering.{number_first_more, number_first_end, number_one_mined}
+use Rattle.numbering.proofs.number_cells.Goals as goal
+
+pub loop-i-init : goal.loop-i-init
+unfolding number_first
+loop-i-init c = (search rules, c.requires, refl)
+
+pub number_cell-requires : goal.number_cell-requires
+number_cell-requires c = record { mined = c.loop-i.invariant.1; cell_bound = omega (arith, c.loop-i.invariant.1.long) }
+
+pub loop-i-smaller : goal.loop-i-smaller
+loop-i-smaller c = omega (arith, c.loop-i.invariant.1.long)
+
+pub loop-i-preserved : goal.loop-i-preserved
+loop-i-preserved c = let l = c.loop-i in (
+      omega (arith, c.loop-i.invariant.1.long),
+      rw c.number_cell.ensures
+          (number_one_mined _ _ l.mines l.i l.invariant.1 (omega (arith, c.loop-i.invariant.1.long))),
+      number_first_more _ _ _ _ _ _
+          c.loop-i.invariant.2 c.number_cell.ensures,
+    )
+
+pub shape_of-mines : goal.shape_of-mines
+shape_of-mines c = omega (arith, c.loop-i.invariant.1.long, c.requires.long)
+
+pub returns : goal.returns
+returns c = number_first_end _ _ _ _ _ c.loop-i.invariant.2 (omega (arith, c.loop-i.invariant.1.long))

@@ -1,0 +1,26 @@
+-- `opening::cross_flags` meets its contract. The loop's invariant: the first i flags are crossed, and the cells from i on are as they were. Assumes nothing.
+use mathlib.Core.Path.{◌≡◌, refl, ◌∙◌}
+use Prim.Native.Nat.{◌≤◌, ◌-◌}
+use native.Mathlib.Omega.{arith}
+use lib.ListN.{length}
+use Rattle.rules.specs.Opening.{crossed}
+use Rattle.opening.proofs.Refresh.{crossed_none, crossed_more}
+use Rattle.opening.proofs.cross_flags.Goals as goal
+
+pub loop-i-init : goal.loop-i-init
+loop-i-init c = (omega arith, crossed_none _ _, refl)
+
+pub cross_flag-requires : goal.cross_flag-requires
+cross_flag-requires c = let pre = (c.requires.mines_len, c.requires.valued) in record { i_in_bounds = omega arith; mines_len = omega arith; valued = pre.1 }
+
+pub loop-i-preserved : goal.loop-i-preserved
+loop-i-preserved c = let loop = c.loop-i in
+    let one = c.cross_flag in
+    (omega arith, crossed_more _ _ _ _ _ loop.invariant.1 one.ensures, one.auto.1.0 ∙ loop.invariant.2)
+
+pub shape_of-shown : goal.shape_of-shown
+shape_of-shown c = c.loop-i.invariant.2
+
+pub returns : goal.returns
+returns c = let args = c.args in
+    let e : c.loop-i.i ≡ length args.shown.now = omega arith in rw e at c.loop-i.invariant.1

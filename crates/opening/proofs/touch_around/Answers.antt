@@ -1,0 +1,40 @@
+-- `opening::touch_around` meets its contract. The loop's invariant: the first k neighbours are touched, and the lengths are as they were. Assumes nothing.
+use mathlib.Core.Path.{◌≡◌, refl, ◌∙◌}
+use Prim.Native.Nat.{◌≤◌, ◌-◌}
+use native.Mathlib.Omega.{arith}
+use lib.ListN.{length}
+use Rattle.rules.specs.Words.{stack_of}
+use Rattle.rules.specs.Grid.{cell_of}
+use Rattle.cells.proofs.Grid.{neighbour_at}
+use Rattle.opening.specs.Quick.{front, touched_around}
+use Rattle.opening.specs.Parts.{Moved}
+use Rattle.opening.proofs.Touching.{around_none, around_more, around_height, roomy_again}
+use Rattle.cells.specs.Promises.{Ticked}
+use Rattle.opening.proofs.Ticking.{ticked_none, ticked_room, ticked_then}
+use Rattle.opening.proofs.touch_around.Goals as goal
+
+pub loop-k-init : goal.loop-k-init
+loop-k-init c = (omega arith, around_none _ _ _ _ _ _ _ _, refl, refl, ticked_none _ _)
+
+pub neighbour_at-q-requires : goal.neighbour_at-q-requires
+neighbour_at-q-requires c = let pre = (c.requires.seated, (c.requires.row_lt_rows, c.requires.opened_bound)) in record { sized = pre.0.sized; row_lt_rows = pre.1.0; k_bound = omega arith }
+
+pub touch-turn-requires : goal.touch-turn-requires
+touch-turn-requires c = let pre = (c.requires.seated, (c.requires.row_lt_rows, c.requires.opened_bound)) in
+    let loop = c.loop-k in record { roomy = roomy_again _ _ _ _ _ _ _ pre.0.roomy loop.invariant.2 loop.invariant.3 (around_height _ _ _ _ _ _ _ _ _ pre.0.roomy.valued _ _ _ _ loop.invariant.1); opened_bound = ticked_room loop.invariant.4 pre.1.1 }
+
+pub loop-k-preserved : goal.loop-k-preserved
+loop-k-preserved c = let pre = (c.requires.seated, (c.requires.row_lt_rows, c.requires.opened_bound)) in
+    let loop = c.loop-k in
+    let next = c.neighbour_at-q in
+    let one = c.touch-turn in
+    (omega arith, around_more _ _ _ _ _ _ _ _ _ _ _ _ _ _ _ _ _ (next.ensures ∙ neighbour_at _ _ _ _ _ pre.1.0.1) loop.invariant.1 one.ensures.0, one.auto.1.0 ∙ loop.invariant.2, one.auto.1.1.0 ∙ loop.invariant.3, ticked_then loop.invariant.4 one.ensures.1)
+
+pub shape_of-shown : goal.shape_of-shown
+shape_of-shown c = c.loop-k.invariant.2
+
+pub shape_of-work : goal.shape_of-work
+shape_of-work c = c.loop-k.invariant.3
+
+pub returns : goal.returns
+returns c = let e : c.loop-k.k ≡ 8 = omega arith in (rw e at c.loop-k.invariant.1, c.loop-k.invariant.4)

@@ -1,0 +1,37 @@
+-- `opening::touch_given` meets its contract. The loop's invariant: the first i given cells are touched, and the lengths are as they were. Assumes nothing.
+use mathlib.Core.Path.{◌≡◌, refl, ◌∙◌}
+use mathlib.Core.Bool.{false}
+use mathlib.Core.List.{[]}
+use Prim.Native.Nat.{◌≤◌, ◌-◌}
+use native.Mathlib.Omega.{arith}
+use lib.ListN.{length}
+use borrow.Author.Rules.{rules}
+use Rattle.rules.specs.Words.{stack_of}
+use Rattle.opening.specs.Quick.{front, touched_all}
+use Rattle.opening.specs.Parts.{Moved}
+use Rattle.opening.proofs.Touching.{all_none, all_more, all_height, roomy_again}
+use Rattle.cells.specs.Promises.{Ticked}
+use Rattle.opening.proofs.Ticking.{ticked_none, ticked_room, ticked_then}
+use Rattle.opening.proofs.touch_given.Goals as goal
+
+pub loop-i-init : goal.loop-i-init
+loop-i-init c = (omega arith, all_none _ _ _ _, refl, refl, ticked_none _ _)
+
+pub touch-turn-requires : goal.touch-turn-requires
+touch-turn-requires c = let pre = (c.requires.roomy, c.requires.n_bound) in
+    let loop = c.loop-i in record { roomy = roomy_again _ _ _ _ _ _ _ pre.0 loop.invariant.2 loop.invariant.3 (all_height _ _ _ _ _ _ _ _ pre.0.valued loop.invariant.1); opened_bound = ticked_room loop.invariant.4 (omega arith) }
+
+pub loop-i-preserved : goal.loop-i-preserved
+loop-i-preserved c = let loop = c.loop-i in
+    let one = c.touch-turn in
+    (omega arith, all_more _ _ _ _ _ _ _ _ _ _ _ _ _ _ loop.invariant.1 one.ensures.0, one.auto.1.0 ∙ loop.invariant.2, one.auto.1.1.0 ∙ loop.invariant.3, ticked_then loop.invariant.4 one.ensures.1)
+
+pub shape_of-shown : goal.shape_of-shown
+shape_of-shown c = c.loop-i.invariant.2
+
+pub shape_of-work : goal.shape_of-work
+shape_of-work c = c.loop-i.invariant.3
+
+pub returns : goal.returns
+returns c = let args = c.args in
+    let e : c.loop-i.i ≡ args.n = omega arith in (rw e at c.loop-i.invariant.1, c.loop-i.invariant.4)

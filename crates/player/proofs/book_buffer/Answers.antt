@@ -1,0 +1,8 @@
+-- `player::book_buffer` meets its contract: by the law, and not by counting.
+use mathlib.Core.Path.{sym}
+use Prim.Native.Nat.{ℕ}
+use lib.ListN.{length-replicate}
+use Rattle.player.proofs.book_buffer.Goals as goal
+
+pub returns : goal.returns
+returns c = sym (length-replicate {0} {A = ℕ} 28681 0)

@@ -1,0 +1,8 @@
+-- `player::work_room` meets its contract: by the law, and not by counting.
+use mathlib.Core.Path.{sym}
+use Prim.Native.Nat.{ℕ}
+use lib.ListN.{length-replicate}
+use Rattle.player.proofs.work_room.Goals as goal
+
+pub returns : goal.returns
+returns c = sym (length-replicate {0} {A = ℕ} 16392 0)

@@ -1,0 +1,14 @@
+-- `practice::put_counts` meets its contract: the numbers, then the end of the line.
+use Rattle.writing.proofs.Putting.{room_first, room_second}
+use Rattle.practice.proofs.Lines.{counts_room, counts_put}
+use borrow.Author.Rules.{rules}
+use Rattle.practice.proofs.put_counts.Goals as goal
+
+pub put_spaced-next-requires : goal.put_spaced-next-requires
+put_spaced-next-requires c = room_first _ (counts_room c.args.score.asked c.args.score.followed c.requires)
+
+pub put_byte-requires : goal.put_byte-requires
+put_byte-requires c = room_second (counts_room c.args.score.asked c.args.score.followed c.requires) c.put_spaced-next.ensures
+
+pub returns : goal.returns
+returns c = counts_put c.args.score.asked c.args.score.followed c.put_spaced-next.ensures c.put_byte.ensures

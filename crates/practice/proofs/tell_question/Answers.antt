@@ -1,0 +1,7 @@
+-- `practice::tell_question` meets its contract: the hint in words, then the counts.
+use Rattle.practice.proofs.Lines.{question_told}
+use borrow.Author.Rules.{rules}
+use Rattle.practice.proofs.tell_question.Goals as goal
+
+pub returns : goal.returns
+returns c = question_told c.args.s.now c.args.at c.args.score c.two_at-n.ensures.0 c.ask-a.ensures c.put_hint-next.ensures c.put_counts-long.ensures

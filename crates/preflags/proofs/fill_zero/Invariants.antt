@@ -1,0 +1,16 @@
+-- `preflags::fill_zero` meets its contract.
+use borrow.Author.Rules.{rules}
+use mathlib.Core.Path.{◌≡◌, ◌∙◌, ap, refl}
+use mathlib.Core.List.{append-nil, List, ◌++◌}
+use lib.Seq.{drop-length}
+use borrow.Author.Fill.{fill_more}
+use Prim.Native.Nat.{ℕ, ◌≤◌, ◌-◌}
+use native.Mathlib.Omega.{arith}
+use lib.ListN.{length, drop, replicate, set, length-set}
+use Rattle.preflags.proofs.fill_zero.Given as goal
+
+abbrev pub invariant-loop-i : goal.invariant-loop-i
+invariant-loop-i l = (l.i ≤ length l.initial.bits) × (length l.bits ≡ length l.initial.bits) × (l.bits ≡ replicate l.i 0 ++ drop l.i l.initial.bits)
+
+abbrev pub decreases-loop-i : goal.decreases-loop-i
+decreases-loop-i l = length l.initial.bits - l.i

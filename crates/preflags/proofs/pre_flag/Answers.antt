@@ -1,0 +1,11 @@
+-- `ready::pre_flag` meets its contract.
+use borrow.Author.Rules.{rules}
+use Rattle.cells.proofs.Contracts.{leaves_by}
+use Rattle.preflags.proofs.Cases.{pre_flag_right}
+use Rattle.preflags.proofs.pre_flag.Goals as goal
+
+pub right_at-requires : goal.right_at-requires
+right_at-requires c = let whole = rw (c.with_game-q.ensures, c.with_preflags-y.ensures) (c.requires.able_at, c.requires.inside) in record { able_at = whole.0; inside = whole.1 }
+
+pub returns : goal.returns
+returns c = leaves_by c.right_at.ensures (pre_flag_right _ c.args.x c.args.p _ _ _ _ c.with_preflags-y.ensures c.with_game-q.ensures)

@@ -1,0 +1,7 @@
+-- `rows::count_moves` meets its contract.
+use mathlib.Core.Path.{refl}
+use borrow.Author.Rules.{rules}
+use Rattle.rows.proofs.count_moves.Goals as goal
+
+pub returns : goal.returns
+returns c = rw c.with_events-q.ensures refl

@@ -1,0 +1,16 @@
+-- `scrub::tell` meets its contract.
+use mathlib.Core.Path.{sym}
+use native.Mathlib.Omega.{arith}
+use lib.Seq.{length-take-le}
+use Rattle.scrub.proofs.Telling.{told_fits, told_whole}
+use borrow.Author.Rules.{rules}
+use Rattle.scrub.proofs.tell.Goals as goal
+
+pub slice_bounds-out-end : goal.slice_bounds-out-end
+slice_bounds-out-end c = let f = c.requires.fits in let t = c.text_room-out.ensures in told_fits c.put_drag-n.ensures (omega arith)
+
+pub slice_bounds-hand-end : goal.slice_bounds-hand-end
+slice_bounds-hand-end c = let f = c.requires.fits in let t = c.text_room-out.ensures in sym (length-take-le _ _ (told_fits c.put_drag-n.ensures (omega arith)))
+
+pub hand-requires : goal.hand-requires
+hand-requires c = let f = c.requires.fits in let t = c.text_room-out.ensures in told_whole c.put_drag-n.ensures (omega arith)

@@ -1,0 +1,22 @@
+-- `scrub::walk` meets its contract.
+use mathlib.Core.Path.{◌≡◌, refl, ◌∙◌}
+use Prim.Native.Nat.{◌-◌}
+use lib.ListN.{length}
+use native.Mathlib.Omega.{arith}
+use borrow.Author.Rules.{rules}
+use Rattle.scrub.proofs.walk.Goals as goal
+
+pub take_word-t-requires : goal.take_word-t-requires
+take_word-t-requires c = c.requires
+
+pub shape_of-room-then-not-t : goal.shape_of-room-then-not-t
+shape_of-room-then-not-t c = c.take_word-t.auto.room ∙ c.loop-i.invariant
+
+pub loop-i-smaller : goal.loop-i-smaller
+loop-i-smaller c = let t = c.loop-i-test.true in omega arith
+
+pub loop-i-preserved : goal.loop-i-preserved
+loop-i-preserved c = c.take_word-t.auto.room ∙ c.loop-i.invariant
+
+pub shape_of-room : goal.shape_of-room
+shape_of-room c = c.loop-i.invariant

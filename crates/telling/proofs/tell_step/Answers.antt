@@ -1,0 +1,12 @@
+use native.Mathlib.Omega.{arith}
+use Rattle.telling.proofs.Telling.{step_told}
+use borrow.Author.Rules.{rules}
+use Rattle.telling.proofs.tell_step.Goals as goal
+
+pub put_outcome-requires : goal.put_outcome-requires
+put_outcome-requires c = let s = c.call-a.auto.shown in let b = c.call-a.auto.bits in let p = c.requires.bits_in_bounds in omega arith
+
+pub returns : goal.returns
+returns c = let a = c.args in
+    step_told a.head.now a.bytes.now a.shown.now a.bits.now a.work.now c.sign_all.ensures c.position_in-p.ensures c.call-a.ensures
+    c.call-a.auto.shown c.call-a.auto.bits c.put_outcome.ensures

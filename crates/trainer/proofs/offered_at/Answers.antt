@@ -1,0 +1,10 @@
+-- `trainer::offered_at` meets its contract: some neighbour justifies the cell exactly where there is a first.
+use Rattle.trainer.proofs.Hints.{offered_shut, offered_by}
+use borrow.Author.Rules.{rules}
+use Rattle.trainer.proofs.offered_at.Goals as goal
+
+pub returns-then-shown-cell-ne10 : goal.returns-then-shown-cell-ne10
+returns-then-shown-cell-ne10 c = offered_shut _ _ _ _ c.if-shown-cell-ne10.true
+
+pub returns : goal.returns
+returns c = offered_by _ _ _ _ c.if-shown-cell-ne10.false c.justifier_of-k.ensures

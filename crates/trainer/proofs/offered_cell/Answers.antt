@@ -1,0 +1,37 @@
+-- `trainer::offered_cell` meets its contract: no cell passed so far is offered.
+use mathlib.Core.Path.{◌≡◌, sym, ap, ◌∙◌, refl}
+use mathlib.Core.Bool.{true, not}
+use Prim.Native.Nat.{◌≤◌, ◌-◌}
+use native.Mathlib.Omega.{arith}
+use lib.ListN.{length}
+use Rattle.rules.specs.Words.{every}
+use Rattle.cells.proofs.Words.{every_turn}
+use Rattle.rules.specs.Trainer.{offered}
+use Rattle.trainer.proofs.Firsts.{misses, none_all, first_found}
+use Rattle.trainer.proofs.Hints.{all_tried}
+use Rattle.trainer.proofs.offered_cell.Goals as goal
+
+pub loop-i-init : goal.loop-i-init
+loop-i-init c = let a = c.args in (refl, omega arith, none_all (offered a.rows a.columns a.shown.now) 0 (λ i l. absurd (omega arith)))
+
+pub offered_at-fine-requires : goal.offered_at-fine-requires
+offered_at-fine-requires c = let pre = (c.requires.sized, c.requires.shown_len) in
+    let e = pre.1 in let d = c.loop-i.invariant.0 in let l = c.loop-i-test.true in record { sized = pre.0; shown_len = pre.1; cell_bound = omega arith }
+
+pub returns-then-fine : goal.returns-then-fine
+returns-then-fine c = let a = c.args in
+    let e = c.requires.shown_len in
+    let d = c.loop-i.invariant.0 in
+    let l = c.loop-i-test.true in
+    first_found (offered a.rows a.columns a.shown.now) _ _ c.loop-i.invariant.2 (sym c.offered_at-fine.ensures ∙ c.if-fine.true) (omega arith)
+
+pub loop-i-preserved : goal.loop-i-preserved
+loop-i-preserved c = let a = c.args in (
+      c.loop-i.invariant.0,
+      omega arith,
+      every_turn (misses (offered a.rows a.columns a.shown.now)) _ c.loop-i.invariant.2 (ap not (sym c.offered_at-fine.ensures ∙ c.if-fine.false)),
+    )
+
+pub returns : goal.returns
+returns c = let a = c.args in
+    all_tried a.rows a.columns a.shown.now c.requires.shown_len c.loop-i.invariant.0 c.loop-i.invariant.1 c.loop-i-test.false c.loop-i.invariant.2

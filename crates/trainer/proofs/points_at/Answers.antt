@@ -1,0 +1,6 @@
+-- `trainer::points_at` meets its contract.
+use borrow.Author.Rules.{rules}
+use Rattle.trainer.proofs.points_at.Goals as goal
+
+pub returns-in-At : goal.returns-in-At
+returns-in-At c = simp c.in-At.is

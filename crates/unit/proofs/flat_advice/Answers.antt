@@ -1,0 +1,6 @@
+-- `unit::flat_advice` meets its contract.
+use borrow.Author.Rules.{rules}
+use Rattle.unit.proofs.flat_advice.Goals as goal
+
+pub returns : goal.returns
+returns c = simp (c.flat_hint-hint.ensures, c.flat_score-score.ensures)

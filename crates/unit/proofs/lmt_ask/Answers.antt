@@ -1,0 +1,7 @@
+-- `unit::lmt_ask` meets its contract.
+use Rattle.unit.proofs.Making.{ask_flat}
+use borrow.Author.Rules.{rules}
+use Rattle.unit.proofs.lmt_ask.Goals as goal
+
+pub returns : goal.returns
+returns c = ask_flat c.args.f _ _ _ c.score_in-s.ensures c.ask-a.ensures c.flat_advice.ensures

@@ -1,0 +1,8 @@
+-- `unit::lmt_hint` meets its contract.
+use mathlib.Core.Path.{ap, ◌∙◌}
+use borrow.Author.Rules.{rules}
+use Rattle.unit.specs.Unit.{flat_hint}
+use Rattle.unit.proofs.lmt_hint.Goals as goal
+
+pub returns : goal.returns
+returns c = c.flat_hint.ensures ∙ ap flat_hint c.hint_on-h.ensures

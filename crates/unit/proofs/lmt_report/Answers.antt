@@ -1,0 +1,7 @@
+-- `unit::lmt_report` meets its contract.
+use Rattle.unit.proofs.Making.{report_flat}
+use borrow.Author.Rules.{rules}
+use Rattle.unit.proofs.lmt_report.Goals as goal
+
+pub returns : goal.returns
+returns c = report_flat c.args.f _ _ _ c.score_in-s.ensures c.report-t.ensures c.flat_score.ensures

@@ -1,0 +1,6 @@
+-- `unit::score_in` meets its contract.
+use borrow.Author.Rules.{rules}
+use Rattle.unit.proofs.score_in.Goals as goal
+
+pub returns : goal.returns
+returns c = simp c.place_in-hint.ensures

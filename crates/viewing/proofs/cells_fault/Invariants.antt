@@ -1,0 +1,15 @@
+-- `viewing::cells_fault` meets its contract: the cells not yet judged have the fault of the whole. The measure is how many are left.
+use mathlib.Core.Path.{◌≡◌, refl}
+use native.Mathlib.Omega.{arith}
+use lib.ListN.{drop}
+use borrow.Author.Rules.{rules}
+use borrow.Author.Tests.{not-true, not-false}
+use Rattle.rules.specs.Picture.{cells_refusal}
+use Rattle.viewing.proofs.Cells.{judge_fault, judge_bad, judge_turn, judge_over, judge_done}
+use Rattle.viewing.proofs.cells_fault.Given as goal
+
+abbrev pub invariant-loop-left : goal.invariant-loop-left
+invariant-loop-left l = cells_refusal l.left (drop l.at l.s) ≡ cells_refusal l.n (drop l.from l.s)
+
+abbrev pub decreases-loop-left : goal.decreases-loop-left
+decreases-loop-left l = l.left
