@@ -5,4 +5,4 @@ use borrow.Author.Rules.{rules}
 use Rattle.bench_drag.proofs.bench_drag.Goals as goal
 
 pub returns : goal.returns
-returns c = let e = c.drag_to-o.ensures in (ap (λ (o : Dragged). o.kept) e, ap (λ (o : Dragged). o.lent) e)
+returns c = (ap (λ (o : Dragged). o.kept) c.drag_to-o.ensures, ap (λ (o : Dragged). o.lent) c.drag_to-o.ensures)

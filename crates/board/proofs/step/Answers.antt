@@ -37,10 +37,9 @@ play_event-o-requires c = let a = c.args in
 pub overflow_sub-opened : goal.overflow_sub-opened
 overflow_sub-opened c = let a = c.args in
     let d = desk a.p a.shown.now a.bits.now in
-    let o = c.play_event-o.ensures in
     let k = c.refusal_of-k.ensures a.bits.now in
     let e = plain_resolved a.code _ a.p a.shown.now a.bits.now _ c.plain_event-e.ensures in
-    let s = o.outcome ∙ sym (step_decoded _ (plain_code a.code) a.row a.column a.p _ _ _ c.decode.ensures _ c.in-At.is ∙ resolved_played a.mines.now (plain_code a.code) _ a.p a.shown.now a.bits.now _ e _ k c.if-k-ne0.false a.p refl) in
+    let s = c.play_event-o.ensures.outcome ∙ sym (step_decoded _ (plain_code a.code) a.row a.column a.p _ _ _ c.decode.ensures _ c.in-At.is ∙ resolved_played a.mines.now (plain_code a.code) _ a.p a.shown.now a.bits.now _ e _ k c.if-k-ne0.false a.p refl) in
     (step_opened _ a.code a.row a.column a.p _ _ _ _ _ _ (lent_kept _ d _ _ c.lent_refusal-n.ensures c.if-n-ne0.false) s).less
 
 pub shape_of-work : goal.shape_of-work
@@ -49,10 +48,9 @@ shape_of-work c = c.play_event-o.auto.work ∙ c.blank.auto.work
 pub returns : goal.returns
 returns c = let a = c.args in
     let d = desk a.p a.shown.now a.bits.now in
-    let o = c.play_event-o.ensures in
     let k = c.refusal_of-k.ensures a.bits.now in
     let l = lent_kept _ d _ _ c.lent_refusal-n.ensures c.if-n-ne0.false in
     let e = plain_resolved a.code _ a.p a.shown.now a.bits.now _ c.plain_event-e.ensures in
-    let s = o.outcome ∙ sym (step_decoded _ (plain_code a.code) a.row a.column a.p _ _ _ c.decode.ensures _ c.in-At.is ∙ resolved_played a.mines.now (plain_code a.code) _ a.p a.shown.now a.bits.now _ e _ k c.if-k-ne0.false a.p refl) in
-    step_done _ a.code a.row a.column a.p _ _ _ _ c.lent_refusal-n.ensures _ _ _ _ _ _ _ c.if-n-ne0.false s (played_small _ c.plain_event-e.result d _ _ o.outcome) (o.same ∙ c.blank.ensures.cleared)
+    let s = c.play_event-o.ensures.outcome ∙ sym (step_decoded _ (plain_code a.code) a.row a.column a.p _ _ _ c.decode.ensures _ c.in-At.is ∙ resolved_played a.mines.now (plain_code a.code) _ a.p a.shown.now a.bits.now _ e _ k c.if-k-ne0.false a.p refl) in
+    step_done _ a.code a.row a.column a.p _ _ _ _ c.lent_refusal-n.ensures _ _ _ _ _ _ _ c.if-n-ne0.false s (played_small _ c.plain_event-e.result d _ _ c.play_event-o.ensures.outcome) (c.play_event-o.ensures.same ∙ c.blank.ensures.cleared)
     (settings_kept _ a.code a.row a.column a.p _ _ _ _ _ _ l s) (step_opened _ a.code a.row a.column a.p _ _ _ _ _ _ l s).by c.answer-2.ensures

@@ -21,13 +21,11 @@ row_fault-column-requires c = record { mined = c.requires; row_lt_rows = search 
 
 pub overflow_mul-result : goal.overflow_mul-result
 overflow_mul-result c = let a = c.args in
-    let k = c.requires.sized.cells in
     let l = cell_lt a.rows a.columns c.loop-row.row c.row_fault-column.result (search rules) (search rules) in
     record { fits = omega arith }
 
 pub overflow_add-result : goal.overflow_add-result
 overflow_add-result c = let a = c.args in
-    let k = c.requires.sized.cells in
     let l = cell_lt a.rows a.columns c.loop-row.row c.row_fault-column.result (search rules) (search rules) in
     record { fits = omega arith }
 

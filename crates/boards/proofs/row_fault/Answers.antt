@@ -10,6 +10,8 @@ use Rattle.rules.specs.Board.{number_ok}
 use Rattle.cells.proofs.Words.{every_turn}
 use Rattle.cells.proofs.Firsts.{first_at, first_past}
 use Rattle.boards.proofs.Tests.{says_no, says_yes}
+use mathlib.Core.Path.{ap}
+use mathlib.Core.Bool.{not}
 use Rattle.boards.proofs.row_fault.Goals as goal
 
 pub loop-column-init : goal.loop-column-init
@@ -23,13 +25,13 @@ pub returns-then-not-number_ok : goal.returns-then-not-number_ok
 returns-then-not-number_ok c = let a = c.args in
     sym
     (first_at (λ j. number_ok a.mines.now a.rows a.columns (cell_of a.columns a.row j)) a.columns
-    c.loop-column.column (search rules) c.loop-column.invariant.1 (says_no c.number_ok.ensures c.if-not-number_ok.true))
+    c.loop-column.column (search rules) c.loop-column.invariant.1 (says_no c.number_ok.ensures (ap not c.if-not-number_ok.true)))
 
 pub loop-column-preserved : goal.loop-column-preserved
 loop-column-preserved c = let a = c.args in (
       search rules,
       every_turn (λ j. number_ok a.mines.now a.rows a.columns (cell_of a.columns a.row j))
-          c.loop-column.column c.loop-column.invariant.1 (says_yes c.number_ok.ensures c.if-not-number_ok.false),
+          c.loop-column.column c.loop-column.invariant.1 (says_yes c.number_ok.ensures (ap not c.if-not-number_ok.false)),
     )
 
 pub returns : goal.returns

@@ -10,6 +10,8 @@ use Rattle.rules.specs.Board.{number_ok}
 use Rattle.cells.proofs.Words.{every_turn}
 use Rattle.cells.proofs.Firsts.{first_at, first_past}
 use Rattle.boards.proofs.Tests.{says_no, says_yes}
+use mathlib.Core.Path.{ap}
+use mathlib.Core.Bool.{not}
 use Rattle.boards.proofs.row_fault.Given as goal
 
 abbrev pub invariant-loop-column : goal.invariant-loop-column

@@ -16,7 +16,7 @@ unfolding count
 loop-i-init c = (omega arith, refl)
 
 pub overflow_add-n : goal.overflow_add-n
-overflow_add-n c = let h = c.requires.mines_len_bound in let e = c.loop-i.invariant.1 in let l = c.loop-i.invariant.0 in let k = count_le (λ j. not (mine_at c.args.mines.now j)) c.loop-i.i in omega (arith, c.one_if-one.ensures.1)
+overflow_add-n c = let k = count_le (λ j. not (mine_at c.args.mines.now j)) c.loop-i.i in omega (arith, c.one_if-one.ensures.1)
 
 pub loop-i-preserved : goal.loop-i-preserved
 loop-i-preserved c = (

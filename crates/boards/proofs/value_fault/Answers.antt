@@ -12,6 +12,8 @@ use Rattle.rules.specs.Words.{every}
 use Rattle.cells.proofs.Words.{every_turn}
 use Rattle.cells.proofs.Firsts.{first_at, first_past}
 use Rattle.boards.proofs.Tests.{value_passed}
+use mathlib.Core.Path.{ap}
+use mathlib.Core.Bool.{not}
 use Rattle.boards.proofs.value_fault.Goals as goal
 
 pub loop-cell-init : goal.loop-cell-init
@@ -23,7 +25,7 @@ returns-then-not-value_ok c = let B = c.args.mines.now in
     sym
     (first_at (value_ok_at B) (length B) c.loop-cell.cell (search rules) c.loop-cell.invariant.1
     (value_passed (get_or B c.loop-cell.cell (pos 0)) (record { sfits = c.value_ok-arg-1.given })
-    c.value_ok.ensures (not-true _ c.if-not-value_ok.true)))
+    c.value_ok.ensures (not-true _ (ap not c.if-not-value_ok.true))))
 
 pub loop-cell-preserved : goal.loop-cell-preserved
 loop-cell-preserved c = let B = c.args.mines.now in (
@@ -31,7 +33,7 @@ loop-cell-preserved c = let B = c.args.mines.now in (
       every_turn (value_ok_at B) c.loop-cell.cell
           c.loop-cell.invariant.1
           (value_passed (get_or B c.loop-cell.cell (pos 0)) (record { sfits = c.value_ok-arg-1.given })
-          c.value_ok.ensures (not-false _ c.if-not-value_ok.false)),
+          c.value_ok.ensures (not-false _ (ap not c.if-not-value_ok.false))),
     )
 
 pub returns : goal.returns

@@ -12,6 +12,8 @@ use Rattle.rules.specs.Words.{every}
 use Rattle.cells.proofs.Words.{every_turn}
 use Rattle.cells.proofs.Firsts.{first_at, first_past}
 use Rattle.boards.proofs.Tests.{value_passed}
+use mathlib.Core.Path.{ap}
+use mathlib.Core.Bool.{not}
 use Rattle.boards.proofs.value_fault.Given as goal
 
 abbrev pub invariant-loop-cell : goal.invariant-loop-cell

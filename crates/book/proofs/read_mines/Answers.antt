@@ -7,6 +7,8 @@ use borrow.Author.Rules.{rules}
 use Prim.Native.Nat.{◌-◌}
 use Rattle.cells.proofs.Words.{bytes_product, product_same}
 use Rattle.book.proofs.Reading.{mines_short_count, mines_too_many, Reached, reached_start, reached_short, reached_wrong, reached_more, reached_done}
+use mathlib.Core.Path.{ap}
+use mathlib.Core.Bool.{not}
 use Rattle.book.proofs.read_mines.Goals as goal
 
 pub returns-then-s-at : goal.returns-then-s-at
@@ -25,10 +27,10 @@ pub returns-then-s-place : goal.returns-then-s-place
 returns-then-s-place c = c.refused-then-s-place.ensures ∙ sym (reached_short _ _ _ _ _ _ _ c.loop-n.invariant c.loop-n-test.true c.if-s-place.true)
 
 pub returns-then-not-mine_fits : goal.returns-then-not-mine_fits
-returns-then-not-mine_fits c = c.refused-then-not-mine_fits.ensures ∙ sym (reached_wrong _ _ _ _ _ _ _ c.loop-n.invariant _ _ c.loop-n-test.true c.if-s-place.false refl refl (sym c.mine_fits.ensures ∙ not-true _ c.if-not-mine_fits.true))
+returns-then-not-mine_fits c = c.refused-then-not-mine_fits.ensures ∙ sym (reached_wrong _ _ _ _ _ _ _ c.loop-n.invariant _ _ c.loop-n-test.true c.if-s-place.false refl refl (sym c.mine_fits.ensures ∙ not-true _ (ap not c.if-not-mine_fits.true)))
 
 pub loop-n-preserved : goal.loop-n-preserved
-loop-n-preserved c = reached_more _ _ _ _ _ _ _ c.loop-n.invariant _ _ c.loop-n-test.true c.if-s-place.false refl refl _ (sym c.mine_fits.ensures ∙ not-false _ c.if-not-mine_fits.false) c.cell-next.ensures.0
+loop-n-preserved c = reached_more _ _ _ _ _ _ _ c.loop-n.invariant _ _ c.loop-n-test.true c.if-s-place.false refl refl _ (sym c.mine_fits.ensures ∙ not-false _ (ap not c.if-not-mine_fits.false)) c.cell-next.ensures.0
 
 pub read_events-requires : goal.read_events-requires
 read_events-requires c = c.loop-n.invariant.within

@@ -11,8 +11,7 @@ pub returns-then-code-eq0 : goal.returns-then-code-eq0
 returns-then-code-eq0 c = let a = c.args in lc_turns a.mines.now a.code a.row a.column a.p _ _ _ c.moves-o.ensures ∙ code_lc a.mines.now a.code a.row a.column a.p _ _ c.if-code-eq0.true
 
 pub release_left-requires : goal.release_left-requires
-release_left-requires c = let pre = (c.requires.lawful_at, (c.requires.inside, c.requires.code_bound)) in
-    let g = pre.0.kept.sound.ground in record { mined = g.mined; shown_len = g.board; inside = pre.1.0; room_at = lawful_room pre.0 }
+release_left-requires c = record { mined = c.requires.lawful_at.kept.sound.ground.mined; shown_len = c.requires.lawful_at.kept.sound.ground.board; inside = c.requires.inside; room_at = lawful_room c.requires.lawful_at }
 
 pub returns-then-code-eq1 : goal.returns-then-code-eq1
 returns-then-code-eq1 c = let a = c.args in plainly_by (play_lr a.mines.now (Cell a.row a.column)) (playing a.mines.now (event_of a.code (Cell a.row a.column))) a.p a.shown.now a.bits.now c.release_left.result c.release_left.new.1.1.1.1.0 a.bits.now (code_lr a.mines.now a.code a.row a.column a.p _ _ c.if-code-eq1.true) (c.release_left.ensures a.bits.now)

@@ -6,7 +6,7 @@ use borrow.Author.Rules.{rules}
 use Rattle.buttons.proofs.play_lr.Goals as goal
 
 pub left_at-requires : goal.left_at-requires
-left_at-requires c = let x = c.args.x in let k = alike_at x (alike_moved 1 _ _ c.moved-q.ensures) c.requires.able_at c.requires.inside in record { laid_at = k.0.laid; room_at = k.0.room; inside = k.1 }
+left_at-requires c = let k = alike_at c.args.x (alike_moved 1 _ _ c.moved-q.ensures) c.requires.able_at c.requires.inside in record { laid_at = k.0.laid; room_at = k.0.room; inside = k.1 }
 
 pub returns-then-m-eq3 : goal.returns-then-m-eq3
 returns-then-m-eq3 c = leaves_by (c.left_at.ensures _) (play_lr_left _ c.args.x c.args.p _ _ _ _ c.mouse_number-m.ensures c.if-m-eq3.true c.moved-q.ensures)

@@ -11,7 +11,7 @@ pub loop-i-init : goal.loop-i-init
 loop-i-init c = (omega arith, fill_none _ 0, refl)
 
 pub loop-i-preserved : goal.loop-i-preserved
-loop-i-preserved c = let l = c.loop-i in (omega arith, ap (λ x. set x l.i 0) l.invariant.1 ∙ fill_more l.i 0 _ (omega arith), simp length-set l.invariant.2)
+loop-i-preserved c = (omega arith, ap (λ x. set x c.loop-i.i 0) c.loop-i.invariant.1 ∙ fill_more c.loop-i.i 0 _ (omega arith), simp length-set c.loop-i.invariant.2)
 
 pub shape_of-work : goal.shape_of-work
 shape_of-work c = c.loop-i.invariant.2

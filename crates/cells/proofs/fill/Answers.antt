@@ -12,7 +12,7 @@ pub loop-i-init : goal.loop-i-init
 loop-i-init c = (omega arith, fill_none _ c.args.v, refl)
 
 pub loop-i-preserved : goal.loop-i-preserved
-loop-i-preserved c = let l = c.loop-i in (omega arith, ap (λ x. set x l.i c.args.v) l.invariant.1 ∙ fill_more l.i c.args.v _ (omega arith), simp length-set l.invariant.2)
+loop-i-preserved c = (omega arith, ap (λ x. set x c.loop-i.i c.args.v) c.loop-i.invariant.1 ∙ fill_more c.loop-i.i c.args.v _ (omega arith), simp length-set c.loop-i.invariant.2)
 
 pub shape_of-bytes : goal.shape_of-bytes
 shape_of-bytes c = c.loop-i.invariant.2

@@ -22,13 +22,13 @@ pub face_at-face-requires : goal.face_at-face-requires
 face_at-face-requires c = let i = cell_lt c.args.p.settings.rows c.args.p.settings.columns c.args.row c.args.column c.requires.row_lt_rows.0 c.requires.row_lt_rows.1 in record { cell_in_bounds = omega (arith, c.requires.laid_at.fits.mined.long); valued = c.requires.laid_at.fits.mined.valued }
 
 pub lone_number-lone-requires : goal.lone_number-lone-requires
-lone_number-lone-requires c = let pre = (c.requires.laid_at, (c.requires.room_at, c.requires.row_lt_rows)) in let own = c.face_at-face.ensures in let number = c.is_number.ensures.yes c.if-is_number.true in record { mined = pre.0.fits.mined; row_lt_rows = pre.1.1; fact = ((λ e. number.0 (own ∙ e)), (λ e. number.1 (own ∙ e))) }
+lone_number-lone-requires c = let number = c.is_number.ensures.yes c.if-is_number.true in record { mined = c.requires.laid_at.fits.mined; row_lt_rows = c.requires.row_lt_rows; fact = ((λ e. number.0 (c.face_at-face.ensures ∙ e)), (λ e. number.1 (c.face_at-face.ensures ∙ e))) }
 
 pub left_number-requires : goal.left_number-requires
-left_number-requires c = let pre = (c.requires.laid_at, (c.requires.room_at, c.requires.row_lt_rows)) in record { cell_in_bounds = omega (arith, cell_lt _ _ _ _ pre.1.1.0 pre.1.1.1, pre.0.fits.board); room_at = pre.1.0 }
+left_number-requires c = record { cell_in_bounds = omega (arith, cell_lt _ _ _ _ c.requires.row_lt_rows.0 c.requires.row_lt_rows.1, c.requires.laid_at.fits.board); room_at = c.requires.room_at }
 
 pub returns-then-is_number : goal.returns-then-is_number
-returns-then-is_number c = let pre = (c.requires.laid_at, (c.requires.room_at, c.requires.row_lt_rows)) in λ bits. record { outcome = c.left_number.ensures _ bits (number_at _ pre.0 (cell_lt _ _ _ _ pre.1.1.0 pre.1.1.1) c.if-shown-cell-ne10.false c.face_at-face.ensures (c.is_number.ensures.yes c.if-is_number.true) c.lone_number-lone.ensures); same = refl }
+returns-then-is_number c = λ bits. record { outcome = c.left_number.ensures _ bits (number_at _ c.requires.laid_at (cell_lt _ _ _ _ c.requires.row_lt_rows.0 c.requires.row_lt_rows.1) c.if-shown-cell-ne10.false c.face_at-face.ensures (c.is_number.ensures.yes c.if-is_number.true) c.lone_number-lone.ensures); same = refl }
 
 pub left_spreads-requires : goal.left_spreads-requires
 left_spreads-requires c = record { laid_at = added_laid c.args.p _ c.add_left-q-2.ensures c.requires.laid_at; cell_bound = added_place c.args.p _ c.add_left-q-2.ensures _ (cell_lt _ _ _ _ c.requires.row_lt_rows.0 c.requires.row_lt_rows.1); lce_bound = added_room c.args.p _ c.add_left-q-2.ensures c.requires.room_at; spreads_at = record { own = c.face_at-face.ensures; zero = c.is_number.ensures.no c.if-is_number.false } }

@@ -5,7 +5,7 @@ use borrow.Author.Rules.{rules}
 use Rattle.faults.proofs.refusal_of.Goals as goal
 
 pub returns-then-is_full : goal.returns-then-is_full
-returns-then-is_full c = let n = c.args.p.events in λ bits. simp (le-ltb n 65535 (leb-true 65535 n (sym c.is_full.ensures ∙ c.if-is_full.true)))
+returns-then-is_full c = λ bits. simp (le-ltb c.args.p.events 65535 (leb-true 65535 c.args.p.events (sym c.is_full.ensures ∙ c.if-is_full.true)))
 
 pub returns : goal.returns
-returns c = let n = c.args.p.events in λ bits. simp (lt-ltb n 65535 (leb-false 65535 n (sym c.is_full.ensures ∙ c.if-is_full.false))) (c.event_refusal.ensures bits)
+returns c = λ bits. simp (lt-ltb c.args.p.events 65535 (leb-false 65535 c.args.p.events (sym c.is_full.ensures ∙ c.if-is_full.false))) (c.event_refusal.ensures bits)

@@ -14,12 +14,10 @@ pub neighbour_at-q-requires : goal.neighbour_at-q-requires
 neighbour_at-q-requires c = record { sized = c.requires.flaggable.mined.sized; row_lt_rows = c.requires.row_lt_rows; k_bound = omega arith }
 
 pub flag_one-n-requires : goal.flag_one-n-requires
-flag_one-n-requires c = let pre = (c.requires.flaggable, c.requires.row_lt_rows) in let whole = going_one pre.0 (room_start pre.0) c.loop-k.invariant.1 in record { valued = whole.0; shown_len = whole.1.0; mines_len_bound = whole.1.1.0; shown_bound = whole.1.1.1 }
+flag_one-n-requires c = let whole = going_one c.requires.flaggable (room_start c.requires.flaggable) c.loop-k.invariant.1 in record { valued = whole.0; shown_len = whole.1.0; mines_len_bound = whole.1.1.0; shown_bound = whole.1.1.1 }
 
 pub loop-k-preserved : goal.loop-k-preserved
-loop-k-preserved c = let one = c.flag_one-n in
-    let pre = (c.requires.flaggable, c.requires.row_lt_rows) in
-    (omega arith, around_more one.auto.1.0 one.auto.1.1.0 _ _ _ _ _ _ _ pre.1.1 c.neighbour_at-q.ensures c.loop-k.invariant.1 one.ensures)
+loop-k-preserved c = (omega arith, around_more c.flag_one-n.auto.shown c.flag_one-n.auto.bits _ _ _ _ _ _ _ c.requires.row_lt_rows.1 c.neighbour_at-q.ensures c.loop-k.invariant.1 c.flag_one-n.ensures)
 
 pub shape_of-shown : goal.shape_of-shown
 shape_of-shown c = c.loop-k.invariant.1.board

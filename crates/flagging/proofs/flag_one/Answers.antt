@@ -10,7 +10,7 @@ pub returns-then-shown-q : goal.returns-then-shown-q
 returns-then-shown-q c = let args = c.args in flags_none _ _ _ _ _ (unseen args.shown.now args.q 9 c.if-shown-q.true)
 
 pub mark_mine-requires : goal.mark_mine-requires
-mark_mine-requires c = let pre = (c.requires.valued, (c.requires.shown_len, (c.requires.mines_len_bound, c.requires.shown_bound))) in record { cell_in_bounds = omega (arith, pre.1.0); valued = pre.0; cell_in_bounds_2 = omega (arith, pre.1.0, pre.1.1.0) }
+mark_mine-requires c = record { cell_in_bounds = omega (arith, c.requires.shown_len); valued = c.requires.valued; cell_in_bounds_2 = omega (arith, c.requires.shown_len, c.requires.mines_len_bound) }
 
 pub returns-then-shown-q-eq10 : goal.returns-then-shown-q-eq10
 returns-then-shown-q-eq10 c = flags_one _ _ _ _ _ _ c.if-shown-q-eq10.true c.mark_mine.ensures.after

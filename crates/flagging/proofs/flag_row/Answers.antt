@@ -10,14 +10,13 @@ pub loop-column-init : goal.loop-column-init
 loop-column-init c = (omega arith, row_start _ _ _ _ _ _ _)
 
 pub flag_beside-n-requires : goal.flag_beside-n-requires
-flag_beside-n-requires c = let pre = (c.requires.flaggable, (c.requires.row_lt_rows, c.requires.shown_bound)) in let going = c.loop-column.invariant.1 in record { flaggable = going_asks pre.0 pre.1.1 going; row_lt_rows = (pre.1.0, c.loop-column-test.true); shown_bound = going_room pre.0 pre.1.1 going }
+flag_beside-n-requires c = record { flaggable = going_asks c.requires.flaggable c.requires.shown_bound c.loop-column.invariant.1; row_lt_rows = (c.requires.row_lt_rows, c.loop-column-test.true); shown_bound = going_room c.requires.flaggable c.requires.shown_bound c.loop-column.invariant.1 }
 
 pub overflow_step-column : goal.overflow_step-column
 overflow_step-column c = omega (arith, c.requires.flaggable.mined.sized.columns64)
 
 pub loop-column-preserved : goal.loop-column-preserved
-loop-column-preserved c = let beside = c.flag_beside-n in
-    (omega arith, row_more beside.auto.1.0 beside.auto.1.1.0 _ _ _ _ _ c.loop-column.invariant.1 beside.ensures)
+loop-column-preserved c = (omega arith, row_more c.flag_beside-n.auto.shown c.flag_beside-n.auto.bits _ _ _ _ _ c.loop-column.invariant.1 c.flag_beside-n.ensures)
 
 pub shape_of-shown : goal.shape_of-shown
 shape_of-shown c = c.loop-column.invariant.1.board

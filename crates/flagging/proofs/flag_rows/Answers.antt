@@ -10,14 +10,13 @@ pub loop-row-init : goal.loop-row-init
 loop-row-init c = (omega arith, rows_start _ _ _ _ _ _)
 
 pub flag_row-n-requires : goal.flag_row-n-requires
-flag_row-n-requires c = let pre = c.requires in let going = c.loop-row.invariant.1 in record { flaggable = going_asks pre (room_start pre) going; row_lt_rows = c.loop-row-test.true; shown_bound = going_room pre (room_start pre) going }
+flag_row-n-requires c = record { flaggable = going_asks c.requires (room_start c.requires) c.loop-row.invariant.1; row_lt_rows = c.loop-row-test.true; shown_bound = going_room c.requires (room_start c.requires) c.loop-row.invariant.1 }
 
 pub overflow_step-row : goal.overflow_step-row
 overflow_step-row c = omega (arith, c.requires.mined.sized.rows64)
 
 pub loop-row-preserved : goal.loop-row-preserved
-loop-row-preserved c = let row = c.flag_row-n in
-    (omega arith, rows_more row.auto.1.0 row.auto.1.1.0 _ _ _ _ c.loop-row.invariant.1 row.ensures)
+loop-row-preserved c = (omega arith, rows_more c.flag_row-n.auto.shown c.flag_row-n.auto.bits _ _ _ _ c.loop-row.invariant.1 c.flag_row-n.ensures)
 
 pub shape_of-shown : goal.shape_of-shown
 shape_of-shown c = c.loop-row.invariant.1.board

@@ -17,19 +17,19 @@ pub moves-n-requires : goal.moves-n-requires
 moves-n-requires c = (c.loop-at.invariant.place, c.loop-at.invariant.whole, c.requires.events_len)
 
 pub count_moves-o-requires : goal.count_moves-o-requires
-count_moves-o-requires c = let f = c.loop-at.invariant.lawful.few in let m = c.moves-n.ensures.1 in omega arith
+count_moves-o-requires c = omega arith
 
 pub overflow_mul-at : goal.overflow_mul-at
-overflow_mul-at c = let r = c.moves-n.ensures.0.room in let g = c.well_formed in omega (arith, g)
+overflow_mul-at c = omega (arith, c.well_formed)
 
 pub overflow_add-at : goal.overflow_add-at
-overflow_add-at c = let r = c.moves-n.ensures.0.room in let g = c.well_formed in omega (arith, g)
+overflow_add-at c = omega (arith, c.well_formed)
 
 pub loop-at-smaller-then-n-ne0 : goal.loop-at-smaller-then-n-ne0
 loop-at-smaller-then-n-ne0 c = omega (arith, c.loop-at-test.true, c.moves-n.ensures.0.room, c.if-n-ne0.true)
 
 pub loop-at-preserved-then-n-ne0 : goal.loop-at-preserved-then-n-ne0
-loop-at-preserved-then-n-ne0 c = flow_run _ _ _ _ _ _ _ _ _ _ c.requires.events_len _ _ c.loop-at.o _ c.if-n-ne0.true c.moves-n.ensures.0 (let f = c.loop-at.invariant.lawful.few in let m = c.moves-n.ensures.1 in omega arith) c.count_moves-o.ensures c.loop-at.invariant
+loop-at-preserved-then-n-ne0 c = flow_run _ _ _ _ _ _ _ _ _ _ c.requires.events_len _ _ c.loop-at.o _ c.if-n-ne0.true c.moves-n.ensures.0 (omega arith) c.count_moves-o.ensures c.loop-at.invariant
 
 pub next_event-o-requires : goal.next_event-o-requires
 next_event-o-requires c = record { lawful_at = c.loop-at.invariant.lawful; blank = blank_kept c.loop-at.o (record { answer = 0; position = c.args.p }) c.loop-at.invariant.settings c.loop-at.invariant.same c.requires.blank; at_in_bounds = event_left _ _ c.requires.events_len c.loop-at.invariant.whole c.loop-at-test.true }

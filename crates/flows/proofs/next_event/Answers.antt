@@ -22,7 +22,7 @@ pub play_brief-requires : goal.play_brief-requires
 play_brief-requires c = let a = c.args in record { lawful_at = c.requires.lawful_at; inside = (pointer_inside a.p.settings (get_or a.events.now (a.at + 1) 0) (get_or a.events.now (a.at + 2) 0) _ (sym c.decode.ensures ∙ c.in-At.is)); events_bound = (leb-false 65535 a.p.events (sym c.is_full.ensures ∙ c.if-is_full.false)) }
 
 pub overflow_add-n : goal.overflow_add-n
-overflow_add-n c = let f = c.requires.lawful_at.few in omega arith
+overflow_add-n c = omega arith
 
 pub step_at-requires : goal.step_at-requires
 step_at-requires c = let a = c.args in let e = brief_other a.mines.now (get_or a.events.now a.at 0) _ a.p a.shown.now a.bits.now c.play_brief.result c.play_brief.new.1.1.1.1.0 c.play_brief.new.1.1.1.1.1.0 c.play_brief.ensures c.in-Other.is in record { lawful_at = lawful_same e.0 e.1 c.requires.lawful_at; blank = c.requires.blank; inside = (pointer_inside a.p.settings (get_or a.events.now (a.at + 1) 0) (get_or a.events.now (a.at + 2) 0) _ (sym c.decode.ensures ∙ c.in-At.is)); events_bound = (leb-false 65535 a.p.events (sym c.is_full.ensures ∙ c.if-is_full.false)) }

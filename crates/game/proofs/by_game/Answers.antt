@@ -6,13 +6,13 @@ use Rattle.game.proofs.Steps.{lawful_asked}
 use Rattle.game.proofs.by_game.Goals as goal
 
 pub ready-requires : goal.ready-requires
-ready-requires c = let a = c.args in let h = (c.requires.lawful_at, (c.requires.blank, c.requires.inside_of)) in let k = lawful_asked _ a.p _ _ _ h.0 h.1.0 in record { able_at = k.able; inside_of = h.1.1; preflags_bound = k.few }
+ready-requires c = let a = c.args in let k = lawful_asked _ a.p _ _ _ c.requires.lawful_at c.requires.blank in record { able_at = k.able; inside_of = c.requires.inside_of; preflags_bound = k.few }
 
 pub pre_flaging-requires : goal.pre_flaging-requires
-pre_flaging-requires c = let a = c.args in let h = (c.requires.lawful_at, (c.requires.blank, c.requires.inside_of)) in let k = lawful_asked _ a.p _ _ _ h.0 h.1.0 in record { able_at = k.able; inside_of = h.1.1; le_right = k.held; preflags_bound = k.few; by_index = k.preflags c.in-PreFlaging.is }
+pre_flaging-requires c = let a = c.args in let k = lawful_asked _ a.p _ _ _ c.requires.lawful_at c.requires.blank in record { able_at = k.able; inside_of = c.requires.inside_of; le_right = k.held; preflags_bound = k.few; by_index = k.preflags c.in-PreFlaging.is }
 
 pub playing-requires : goal.playing-requires
-playing-requires c = let a = c.args in let h = (c.requires.lawful_at, (c.requires.blank, c.requires.inside_of)) in let k = lawful_asked _ a.p _ _ _ h.0 h.1.0 in record { able_at = k.able; inside_of = h.1.1; le_right = k.held }
+playing-requires c = let a = c.args in let k = lawful_asked _ a.p _ _ _ c.requires.lawful_at c.requires.blank in record { able_at = k.able; inside_of = c.requires.inside_of; le_right = k.held }
 
 pub returns-in-Ready : goal.returns-in-Ready
 unfolding by_game

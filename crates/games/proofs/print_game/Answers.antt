@@ -5,10 +5,10 @@ use Rattle.games.proofs.Games.{game_lawful_lem, game_blank, game_events, game_en
 use Rattle.games.proofs.print_game.Goals as goal
 
 pub play_events-t-requires : goal.play_events-t-requires
-play_events-t-requires c = let args = c.args in let pre = (c.requires.b_value, (c.requires.fit, c.requires.in_bounds)) in let g = c.begin-p.ensures in record { lawful_at = game_lawful_lem _ args.b pre.0.0 pre.0.1 g; blank = game_blank _ args.b pre.0.0 pre.0.1 g; events_fit = game_events _ args.b pre.0.0 pre.0.1 g pre.1.1 c.put_game_line-first.ensures c.events-events.ensures }
+play_events-t-requires c = let args = c.args in record { lawful_at = game_lawful_lem _ args.b c.requires.b_value.0 c.requires.b_value.1 c.begin-p.ensures; blank = game_blank _ args.b c.requires.b_value.0 c.requires.b_value.1 c.begin-p.ensures; events_fit = game_events _ args.b c.requires.b_value.0 c.requires.b_value.1 c.begin-p.ensures c.requires.in_bounds c.put_game_line-first.ensures c.events-events.ensures }
 
 pub finish-requires : goal.finish-requires
-finish-requires c = let args = c.args in let pre = (c.requires.b_value, (c.requires.fit, c.requires.in_bounds)) in let whole = game_ends _ args.b pre.0.0 pre.0.1 c.begin-p.ensures pre.1.1 c.put_game_line-first.ensures c.events-events.ensures c.play_events-t.ensures in record { mined = whole.0; blank = whole.1.0; rows_fit = whole.1.1 }
+finish-requires c = let args = c.args in let whole = game_ends _ args.b c.requires.b_value.0 c.requires.b_value.1 c.begin-p.ensures c.requires.in_bounds c.put_game_line-first.ensures c.events-events.ensures c.play_events-t.ensures in record { mined = whole.0; blank = whole.1.0; rows_fit = whole.1.1 }
 
 pub shape_of-mines : goal.shape_of-mines
 shape_of-mines c = c.begin-p.auto.mines
@@ -23,4 +23,4 @@ pub shape_of-work : goal.shape_of-work
 shape_of-work c = c.finish.auto.work ∙ c.play_events-t.auto.work ∙ c.begin-p.auto.work
 
 pub returns : goal.returns
-returns c = let args = c.args in let pre = (c.requires.b_value, (c.requires.fit, c.requires.in_bounds)) in game_printed _ args.b pre.0.0 pre.0.1 c.begin-p.ensures pre.1.1 c.put_game_line-first.ensures c.events-events.ensures c.play_events-t.ensures c.finish.ensures
+returns c = let args = c.args in game_printed _ args.b c.requires.b_value.0 c.requires.b_value.1 c.begin-p.ensures c.requires.in_bounds c.put_game_line-first.ensures c.events-events.ensures c.play_events-t.ensures c.finish.ensures

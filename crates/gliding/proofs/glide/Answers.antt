@@ -30,7 +30,7 @@ pub returns-then-g-ge20 : goal.returns-then-g-ge20
 returns-then-g-ge20 c = let w = way_next _ _ _ _ c.args.to c.requires.le_k.0 _ _ _ c.loop-g.g _ _ _ _ c.loop-g.invariant.0 c.loop-g.invariant.1 c.glide_row-g.result _ _ _ _ c.glide_row-g.ensures in record { outcome = way_refused _ _ _ _ c.args.to c.requires.le_k.0 _ _ _ c.glide_row-g.result _ _ _ _ w c.glide_row-g.ensures.stops.within c.if-g-ge20.true; same = w.lent }
 
 pub loop-g-smaller : goal.loop-g-smaller
-loop-g-smaller c = let a = c.glide_row-g.ensures.stops.after in let t = c.loop-g-test.true in omega arith
+loop-g-smaller c = omega arith
 
 pub loop-g-preserved : goal.loop-g-preserved
 loop-g-preserved c = (way_next _ _ _ _ c.args.to c.requires.le_k.0 _ _ _ c.loop-g.g _ _ _ _ c.loop-g.invariant.0 c.loop-g.invariant.1 c.glide_row-g.result _ _ _ _ c.glide_row-g.ensures, c.if-g-ge20.false, c.glide_row-g.ensures.stops.within)
@@ -48,4 +48,4 @@ pub shape_of-room : goal.shape_of-room
 shape_of-room c = c.loop-g.invariant.0.long
 
 pub returns : goal.returns
-returns c = record { outcome = way_end _ _ _ _ c.args.to c.requires.le_k.0 _ _ _ c.loop-g.g _ _ _ _ c.loop-g.invariant.0 (let t = c.loop-g-test.false in let z = c.loop-g.invariant.2 in omega arith); same = c.loop-g.invariant.0.lent }
+returns c = record { outcome = way_end _ _ _ _ c.args.to c.requires.le_k.0 _ _ _ c.loop-g.g _ _ _ _ c.loop-g.invariant.0 (omega arith); same = c.loop-g.invariant.0.lent }

@@ -19,4 +19,4 @@ pub slice_bounds-hand-end : goal.slice_bounds-hand-end
 slice_bounds-hand-end c = sym (length-take-le _ _ (line_fits c.hint_on-hint.result c.line_room-out.ensures c.put_hint-end.ensures c.put_byte-n.ensures))
 
 pub hand-requires : goal.hand-requires
-hand-requires c = let pre = (c.requires.b_value, c.requires.last) in let args = c.args in line_handed c.hint_on-hint.result c.line_room-out.ensures c.put_hint-end.ensures c.put_byte-n.ensures args.s.now args.b pre.0.0 pre.0.1 pre.1 c.cell_count-cells.ensures.0 c.hint_on-hint.ensures
+hand-requires c = let args = c.args in line_handed c.hint_on-hint.result c.line_room-out.ensures c.put_hint-end.ensures c.put_byte-n.ensures args.s.now args.b c.requires.b_value.0 c.requires.b_value.1 c.requires.last c.cell_count-cells.ensures.0 c.hint_on-hint.ensures

@@ -14,13 +14,13 @@ pub loop-i-init : goal.loop-i-init
 loop-i-init c = (omega arith, board_none _ _ _ _ _ c.requires.walkable.room c.requires.zeros)
 
 pub judge_left-sum-requires : goal.judge_left-sum-requires
-judge_left-sum-requires c = let l = c.loop-i in record { walkable = record { mined = c.requires.walkable.mined; room = rw l.invariant.1.long c.requires.walkable.room }; q_bound = c.loop-i-test.true; count_bound = let f : l.sum.count ≤ l.i = board_few _ _ _ _ _ _ _ _ l.invariant.1 in omega (arith, l.invariant.0, c.requires.walkable.mined.sized.cells) }
+judge_left-sum-requires c = record { walkable = record { mined = c.requires.walkable.mined; room = rw c.loop-i.invariant.1.long c.requires.walkable.room }; q_bound = c.loop-i-test.true; count_bound = let f : c.loop-i.sum.count ≤ c.loop-i.i = board_few _ _ _ _ _ _ _ _ c.loop-i.invariant.1 in omega (arith, c.loop-i.invariant.0, c.requires.walkable.mined.sized.cells) }
 
 pub overflow_step-i : goal.overflow_step-i
 overflow_step-i c = omega (arith, c.requires.walkable.mined.sized.cells)
 
 pub loop-i-preserved : goal.loop-i-preserved
-loop-i-preserved c = let l = c.loop-i in (omega arith, board_more _ _ _ _ _ _ _ _ _ _ l.invariant.1 c.judge_left-sum.ensures c.judge_left-sum.auto.work)
+loop-i-preserved c = (omega arith, board_more _ _ _ _ _ _ _ _ _ _ c.loop-i.invariant.1 c.judge_left-sum.ensures c.judge_left-sum.auto.work)
 
 pub shape_of-work : goal.shape_of-work
 shape_of-work c = c.loop-i.invariant.1.long

@@ -13,10 +13,10 @@ pub loop-i-init : goal.loop-i-init
 loop-i-init c = (omega arith, chord_none _ _ _ _ _ _ c.requires.walkable.room c.requires.zeros)
 
 pub judge_one-sum-requires : goal.judge_one-sum-requires
-judge_one-sum-requires c = let l = c.loop-i in record { walkable = record { mined = c.requires.walkable.mined; room = rw l.invariant.1.long c.requires.walkable.room }; q_bound = rw c.index-q.ensures (stack_below _ _ _ c.requires.below l.i c.loop-i-test.true); count_bound = let f : l.sum.count ≤ l.i = chord_few _ _ _ _ _ _ _ _ _ l.invariant.1 in omega arith }
+judge_one-sum-requires c = record { walkable = record { mined = c.requires.walkable.mined; room = rw c.loop-i.invariant.1.long c.requires.walkable.room }; q_bound = rw c.index-q.ensures (stack_below _ _ _ c.requires.below c.loop-i.i c.loop-i-test.true); count_bound = let f : c.loop-i.sum.count ≤ c.loop-i.i = chord_few _ _ _ _ _ _ _ _ _ c.loop-i.invariant.1 in omega arith }
 
 pub loop-i-preserved : goal.loop-i-preserved
-loop-i-preserved c = let l = c.loop-i in (omega arith, chord_more_lem _ _ _ _ _ _ _ _ _ _ _ _ c.index-q.ensures l.invariant.1 c.judge_one-sum.ensures c.judge_one-sum.auto.work)
+loop-i-preserved c = (omega arith, chord_more_lem _ _ _ _ _ _ _ _ _ _ _ _ c.index-q.ensures c.loop-i.invariant.1 c.judge_one-sum.ensures c.judge_one-sum.auto.work)
 
 pub shape_of-work : goal.shape_of-work
 shape_of-work c = c.loop-i.invariant.1.long

@@ -2,10 +2,12 @@
 use borrow.Author.Rules.{rules}
 use borrow.Author.Tests.{not-true, not-false}
 use Rattle.judging.proofs.Tallying.{judged_open, judged_due}
+use mathlib.Core.Path.{ap}
+use mathlib.Core.Bool.{not}
 use Rattle.judging.proofs.judge_left.Goals as goal
 
 pub returns-then-not-due : goal.returns-then-not-due
-returns-then-not-due c = judged_open c.not_open-due.ensures _ _ _ _ _ _ (not-true _ c.if-not-due.true)
+returns-then-not-due c = judged_open c.not_open-due.ensures _ _ _ _ _ _ (not-true _ (ap not c.if-not-due.true))
 
 pub returns : goal.returns
-returns c = judged_due c.not_open-due.ensures _ _ _ _ _ _ (not-false _ c.if-not-due.false) _ _ c.judge_one.ensures
+returns c = judged_due c.not_open-due.ensures _ _ _ _ _ _ (not-false _ (ap not c.if-not-due.false)) _ _ c.judge_one.ensures

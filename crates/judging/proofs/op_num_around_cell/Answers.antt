@@ -4,13 +4,10 @@ use borrow.Author.Rules.{rules}
 use Rattle.judging.proofs.op_num_around_cell.Goals as goal
 
 pub returns-then-sum : goal.returns-then-sum
-returns-then-sum c = let pre = (c.requires.laid, (c.requires.n_bound, c.requires.below)) in
-    let judged = c.judge_cells-sum in
-    record {
-      outcome = tallied_count _ _ _ _ _ _ _ _ judged.ensures;
-      same = cleared _ _ _ _ pre.0.zeros judged.ensures.rest judged.ensures.long c.clear.ensures c.clear.auto.work;
+returns-then-sum c = record {
+      outcome = tallied_count _ _ _ _ _ _ _ _ c.judge_cells-sum.ensures;
+      same = cleared _ _ _ _ c.requires.laid.zeros c.judge_cells-sum.ensures.rest c.judge_cells-sum.ensures.long c.clear.ensures c.clear.auto.work;
     }
 
 pub returns-else-sum : goal.returns-else-sum
-returns-else-sum c = let judged = c.judge_cells-sum in
-    record { outcome = tallied_count _ _ _ _ _ _ _ _ judged.ensures; same = judged.ensures.still c.if-sum.false }
+returns-else-sum c = record { outcome = tallied_count _ _ _ _ _ _ _ _ c.judge_cells-sum.ensures; same = c.judge_cells-sum.ensures.still c.if-sum.false }

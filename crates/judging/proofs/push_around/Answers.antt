@@ -23,12 +23,10 @@ neighbour_at-q-requires c = let a = c.args in record { sized = c.requires.sized;
 
 pub push_free-t-requires : goal.push_free-t-requires
 push_free-t-requires c = let a = c.args in
-    let b : c.neighbour_at-q.result ≤ a.rows * a.columns = rw c.neighbour_at-q.ensures (cell_before_le a.rows a.columns _ _) in
-    let l = c.loop-k in record { size_bound = c.requires.sized.cells; size_in_bounds = rw l.invariant.2 c.requires.columns_in_bounds; top_bound = omega (arith, l.invariant.1.most, c.requires.top_bound); q_bound = omega (arith, c.requires.sized.cells) }
+    let b : c.neighbour_at-q.result ≤ a.rows * a.columns = rw c.neighbour_at-q.ensures (cell_before_le a.rows a.columns _ _) in record { size_bound = c.requires.sized.cells; size_in_bounds = rw c.loop-k.invariant.2 c.requires.columns_in_bounds; top_bound = omega (arith, c.loop-k.invariant.1.most, c.requires.top_bound); q_bound = omega (arith, c.requires.sized.cells) }
 
 pub loop-k-preserved : goal.loop-k-preserved
-loop-k-preserved c = let l = c.loop-k in
-    (omega arith, grown_more _ _ _ _ _ _ _ _ _ _ _ c.requires.columns_in_bounds l.invariant.2 (omega (arith, c.requires.top_bound)) l.invariant.1 (neighbour_of _ _ _ _ c.neighbour_at-q.ensures) c.push_free-t.ensures, c.push_free-t.auto.work ∙ l.invariant.2)
+loop-k-preserved c = (omega arith, grown_more _ _ _ _ _ _ _ _ _ _ _ c.requires.columns_in_bounds c.loop-k.invariant.2 (omega (arith, c.requires.top_bound)) c.loop-k.invariant.1 (neighbour_of _ _ _ _ c.neighbour_at-q.ensures) c.push_free-t.ensures, c.push_free-t.auto.work ∙ c.loop-k.invariant.2)
 
 pub shape_of-work : goal.shape_of-work
 shape_of-work c = c.loop-k.invariant.2

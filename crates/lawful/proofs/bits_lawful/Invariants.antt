@@ -9,6 +9,8 @@ use lib.ListN.{length}
 use Rattle.rules.specs.Words.{every}
 use Rattle.lawful.specs.Parts.{bit_lawful}
 use Rattle.lawful.proofs.Scan.{bits_none, bits_turn, bits_stop, bits_done}
+use mathlib.Core.Path.{ap}
+use mathlib.Core.Bool.{not}
 use Rattle.lawful.proofs.bits_lawful.Given as goal
 
 abbrev pub invariant-loop-at : goal.invariant-loop-at

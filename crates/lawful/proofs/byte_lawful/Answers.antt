@@ -17,7 +17,7 @@ unfolding every
 loop-k-init c = (omega arith, refl)
 
 pub bit_lawful-fine-requires : goal.bit_lawful-fine-requires
-bit_lawful-fine-requires c = let pre = (c.requires.at_in_bounds, (c.requires.bits_len_bound, c.requires.valued)) in record { n_bound = omega (arith, pre.0); valued = pre.1.1 }
+bit_lawful-fine-requires c = record { n_bound = omega (arith, c.requires.at_in_bounds); valued = c.requires.valued }
 
 pub loop-k-preserved : goal.loop-k-preserved
 loop-k-preserved c = let a = c.args in (omega arith, every_more (λ j. bit_lawful a.mines.now a.bits.now (8 * a.at + j)) _ _ _ c.loop-k.invariant.1 c.bit_lawful-fine.ensures)

@@ -21,7 +21,7 @@ pub returns-then-v-eq15 : goal.returns-then-v-eq15
 returns-then-v-eq15 c = lone_no_mine _ _ _ _ _ c.face_at-v.ensures c.if-v-eq15.true
 
 pub lone_number-requires : goal.lone_number-requires
-lone_number-requires c = let pre = (c.requires.mined, c.requires.row_lt_rows) in let own = c.face_at-v.ensures in record { mined = pre.0; row_lt_rows = pre.1; fact = ((λ e. c.if-v-eq0.false (own ∙ e)), (λ e. c.if-v-eq15.false (own ∙ e))) }
+lone_number-requires c = record { mined = c.requires.mined; row_lt_rows = c.requires.row_lt_rows; fact = ((λ e. c.if-v-eq0.false (c.face_at-v.ensures ∙ e)), (λ e. c.if-v-eq15.false (c.face_at-v.ensures ∙ e))) }
 
 pub returns : goal.returns
 returns c = c.lone_number.ensures

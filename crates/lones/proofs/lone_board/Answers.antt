@@ -14,7 +14,7 @@ pub lone_row-sum-requires : goal.lone_row-sum-requires
 lone_row-sum-requires c = record { mined = c.requires; row_lt_rows = c.loop-row-test.true }
 
 pub overflow_add-sum : goal.overflow_add-sum
-overflow_add-sum c = let l = c.loop-row in omega (arith, board_few _ _ _ _ (l.row + 1) _ (board_more _ _ _ _ _ _ _ l.invariant.1 c.lone_row-sum.ensures) (omega arith), c.requires.sized.cells)
+overflow_add-sum c = omega (arith, board_few _ _ _ _ (c.loop-row.row + 1) _ (board_more _ _ _ _ _ _ _ c.loop-row.invariant.1 c.lone_row-sum.ensures) (omega arith), c.requires.sized.cells)
 
 pub overflow_step-row : goal.overflow_step-row
 overflow_step-row c = omega (arith, c.requires.sized.rows64)

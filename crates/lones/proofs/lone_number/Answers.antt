@@ -5,4 +5,4 @@ use borrow.Author.Rules.{rules}
 use Rattle.lones.proofs.lone_number.Goals as goal
 
 pub returns : goal.returns
-returns c = let pre = (c.requires.mined, (c.requires.row_lt_rows, c.requires.fact)) in lone_number _ _ _ _ pre.0 (cell_lt _ _ _ _ pre.1.0.0 pre.1.0.1) pre.1.1.0 pre.1.1.1 _ c.zero_beside-beside.ensures
+returns c = lone_number _ _ _ _ c.requires.mined (cell_lt _ _ _ _ c.requires.row_lt_rows.0 c.requires.row_lt_rows.1) c.requires.fact.0 c.requires.fact.1 _ c.zero_beside-beside.ensures

@@ -7,22 +7,22 @@ use Rattle.noflag_player.proofs.Games.{book_same, cut_fit, barred_fits, ends, pr
 use Rattle.noflag_player.proofs.print_game.Goals as goal
 
 pub begin-p-requires : goal.begin-p-requires
-begin-p-requires c = let a = c.args in let h = (c.requires.b_value, (c.requires.fit, c.requires.in_bounds)) in record { b_value = (book_same _ a.b h.0.0 h.0.1, h.0.1); fit = h.1.0 }
+begin-p-requires c = let a = c.args in record { b_value = (book_same _ a.b c.requires.b_value.0 c.requires.b_value.1, c.requires.b_value.1); fit = c.requires.fit }
 
 pub free-n-requires : goal.free-n-requires
-free-n-requires c = let a = c.args in let h = (c.requires.b_value, (c.requires.fit, c.requires.in_bounds)) in (game_events _ a.b (book_same _ a.b h.0.0 h.0.1) h.0.1 c.begin-p.ensures h.1.1 c.put_game_line-first.ensures c.events-events.ensures).whole
+free-n-requires c = let a = c.args in (game_events _ a.b (book_same _ a.b c.requires.b_value.0 c.requires.b_value.1) c.requires.b_value.1 c.begin-p.ensures c.requires.in_bounds c.put_game_line-first.ensures c.events-events.ensures).whole
 
 pub slice_bounds-play_events-end : goal.slice_bounds-play_events-end
 slice_bounds-play_events-end c = sym (length-take-le _ _ c.free-n.ensures.within)
 
 pub play_events-t-requires : goal.play_events-t-requires
-play_events-t-requires c = let a = c.args in let h = (c.requires.b_value, (c.requires.fit, c.requires.in_bounds)) in let same = book_same _ a.b h.0.0 h.0.1 in let g = c.begin-p.ensures in record { lawful_at = game_lawful_lem _ a.b same h.0.1 g; blank = game_blank _ a.b same h.0.1 g; events_fit = cut_fit _ a.b h.0.0 h.0.1 g h.1.1 c.put_game_line-first.ensures c.events-events.ensures c.free-n.ensures }
+play_events-t-requires c = let a = c.args in let same = book_same _ a.b c.requires.b_value.0 c.requires.b_value.1 in record { lawful_at = game_lawful_lem _ a.b same c.requires.b_value.1 c.begin-p.ensures; blank = game_blank _ a.b same c.requires.b_value.1 c.begin-p.ensures; events_fit = cut_fit _ a.b c.requires.b_value.0 c.requires.b_value.1 c.begin-p.ensures c.requires.in_bounds c.put_game_line-first.ensures c.events-events.ensures c.free-n.ensures }
 
 pub put_barred-at-requires : goal.put_barred-at-requires
-put_barred-at-requires c = let a = c.args in let h = (c.requires.b_value, (c.requires.fit, c.requires.in_bounds)) in barred_fits _ a.b h.0.0 h.0.1 c.begin-p.ensures h.1.1 c.put_game_line-first.ensures c.events-events.ensures c.free-n.ensures c.play_events-t.ensures
+put_barred-at-requires c = let a = c.args in barred_fits _ a.b c.requires.b_value.0 c.requires.b_value.1 c.begin-p.ensures c.requires.in_bounds c.put_game_line-first.ensures c.events-events.ensures c.free-n.ensures c.play_events-t.ensures
 
 pub finish-requires : goal.finish-requires
-finish-requires c = let a = c.args in let h = (c.requires.b_value, (c.requires.fit, c.requires.in_bounds)) in let whole = ends _ a.b h.0.0 h.0.1 c.begin-p.ensures h.1.1 c.put_game_line-first.ensures c.events-events.ensures c.free-n.ensures c.play_events-t.ensures c.put_barred-at.ensures in record { mined = whole.0; blank = whole.1.0; rows_fit = whole.1.1 }
+finish-requires c = let a = c.args in let whole = ends _ a.b c.requires.b_value.0 c.requires.b_value.1 c.begin-p.ensures c.requires.in_bounds c.put_game_line-first.ensures c.events-events.ensures c.free-n.ensures c.play_events-t.ensures c.put_barred-at.ensures in record { mined = whole.0; blank = whole.1.0; rows_fit = whole.1.1 }
 
 pub shape_of-mines : goal.shape_of-mines
 shape_of-mines c = c.begin-p.auto.mines
@@ -40,4 +40,4 @@ pub shape_of-out : goal.shape_of-out
 shape_of-out c = c.finish.auto.out ∙ (c.put_barred-at.auto.out ∙ (c.play_events-t.auto.out ∙ c.put_game_line-first.auto.out))
 
 pub returns : goal.returns
-returns c = let a = c.args in let h = (c.requires.b_value, (c.requires.fit, c.requires.in_bounds)) in printed _ a.b h.0.0 h.0.1 c.begin-p.ensures h.1.1 c.put_game_line-first.ensures c.events-events.ensures c.free-n.ensures c.play_events-t.ensures c.put_barred-at.ensures c.finish.ensures
+returns c = let a = c.args in printed _ a.b c.requires.b_value.0 c.requires.b_value.1 c.begin-p.ensures c.requires.in_bounds c.put_game_line-first.ensures c.events-events.ensures c.free-n.ensures c.play_events-t.ensures c.put_barred-at.ensures c.finish.ensures

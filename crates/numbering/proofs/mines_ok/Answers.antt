@@ -8,6 +8,8 @@ use Rattle.rules.specs.Board.{mines_in, mine_ok}
 use Rattle.cells.proofs.Words.{every_turn, every_fails}
 use Rattle.boards.proofs.Scans.{every_end}
 use Rattle.boards.proofs.Tests.{says_no, says_yes}
+use mathlib.Core.Path.{ap}
+use mathlib.Core.Bool.{not}
 use Rattle.numbering.proofs.mines_ok.Goals as goal
 
 pub loop-n-init : goal.loop-n-init
@@ -18,13 +20,13 @@ pub returns-then-not-mine_ok : goal.returns-then-not-mine_ok
 returns-then-not-mine_ok c = let a = c.args in
     sym
     (every_fails (mine_ok a.rows a.columns a.list.now) (mines_in a.list.now) c.loop-n.n
-    c.loop-n-test.true (says_no c.mine_ok.ensures c.if-not-mine_ok.true))
+    c.loop-n-test.true (says_no c.mine_ok.ensures (ap not c.if-not-mine_ok.true)))
 
 pub loop-n-preserved : goal.loop-n-preserved
 loop-n-preserved c = let a = c.args in (
       search rules,
       every_turn (mine_ok a.rows a.columns a.list.now) c.loop-n.n
-          c.loop-n.invariant.1 (says_yes c.mine_ok.ensures c.if-not-mine_ok.false),
+          c.loop-n.invariant.1 (says_yes c.mine_ok.ensures (ap not c.if-not-mine_ok.false)),
     )
 
 pub returns : goal.returns

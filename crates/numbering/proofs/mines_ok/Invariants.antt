@@ -8,6 +8,8 @@ use Rattle.rules.specs.Board.{mines_in, mine_ok}
 use Rattle.cells.proofs.Words.{every_turn, every_fails}
 use Rattle.boards.proofs.Scans.{every_end}
 use Rattle.boards.proofs.Tests.{says_no, says_yes}
+use mathlib.Core.Path.{ap}
+use mathlib.Core.Bool.{not}
 use Rattle.numbering.proofs.mines_ok.Given as goal
 
 abbrev pub invariant-loop-n : goal.invariant-loop-n

@@ -19,10 +19,10 @@ pub loop-i-smaller : goal.loop-i-smaller
 loop-i-smaller c = omega (arith, c.loop-i.invariant.1.long)
 
 pub loop-i-preserved : goal.loop-i-preserved
-loop-i-preserved c = let l = c.loop-i in (
+loop-i-preserved c = (
       omega (arith, c.loop-i.invariant.1.long),
       rw c.number_cell.ensures
-          (number_one_mined _ _ l.mines l.i l.invariant.1 (omega (arith, c.loop-i.invariant.1.long))),
+          (number_one_mined _ _ c.loop-i.mines c.loop-i.i c.loop-i.invariant.1 (omega (arith, c.loop-i.invariant.1.long))),
       number_first_more _ _ _ _ _ _
           c.loop-i.invariant.2 c.number_cell.ensures,
     )

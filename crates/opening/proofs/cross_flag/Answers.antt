@@ -12,8 +12,7 @@ returns-then-face_at-eq15 c = let args = c.args in
 
 pub returns-else-face_at-eq15 : goal.returns-else-face_at-eq15
 returns-else-face_at-eq15 c = let args = c.args in
-    let if1 = c.if-shown-i-eq11 in
-    cross_safe args.shown.now args.i (face_at args.mines.now args.i) (eq-eqb _ _ if1.true) (ne_eqb _ _ (λ e. c.if-face_at-eq15.false (c.face_at.ensures ∙ e)))
+    cross_safe args.shown.now args.i (face_at args.mines.now args.i) (eq-eqb _ _ c.if-shown-i-eq11.true) (ne_eqb _ _ (λ e. c.if-face_at-eq15.false (c.face_at.ensures ∙ e)))
 
 pub returns-else-shown-i-eq11 : goal.returns-else-shown-i-eq11
 returns-else-shown-i-eq11 c = let args = c.args in

@@ -11,12 +11,10 @@ pub loop-i-init : goal.loop-i-init
 loop-i-init c = (omega arith, crossed_none _ _, refl)
 
 pub cross_flag-requires : goal.cross_flag-requires
-cross_flag-requires c = let pre = (c.requires.mines_len, c.requires.valued) in record { i_in_bounds = omega arith; mines_len = omega arith; valued = pre.1 }
+cross_flag-requires c = record { i_in_bounds = omega arith; mines_len = omega arith; valued = c.requires.valued }
 
 pub loop-i-preserved : goal.loop-i-preserved
-loop-i-preserved c = let loop = c.loop-i in
-    let one = c.cross_flag in
-    (omega arith, crossed_more _ _ _ _ _ loop.invariant.1 one.ensures, one.auto.1.0 ∙ loop.invariant.2)
+loop-i-preserved c = (omega arith, crossed_more _ _ _ _ _ c.loop-i.invariant.1 c.cross_flag.ensures, c.cross_flag.auto.shown ∙ c.loop-i.invariant.2)
 
 pub shape_of-shown : goal.shape_of-shown
 shape_of-shown c = c.loop-i.invariant.2

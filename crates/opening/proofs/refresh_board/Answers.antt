@@ -6,23 +6,13 @@ use Rattle.opening.proofs.Ticking.{ticked_room, ticked_then, ticked_crossed}
 use Rattle.opening.proofs.refresh_board.Goals as goal
 
 pub touch_given-turn-requires : goal.touch_given-turn-requires
-touch_given-turn-requires c = let pre = (c.requires.laid, (c.requires.n_bound, c.requires.below)) in record { roomy = roomy_start _ _ _ _ _ pre.0; n_bound = pre.1.0 }
+touch_given-turn-requires c = record { roomy = roomy_start _ _ _ _ _ c.requires.laid; n_bound = c.requires.n_bound }
 
 pub work_off-o-requires : goal.work_off-o-requires
-work_off-o-requires c = let pre = (c.requires.laid, (c.requires.n_bound, c.requires.below)) in
-    let moved = c.touch_given-turn in
-    let asks = work_asks _ _ _ _ _ _ _ _ _ _ _ pre.0 pre.1.0 moved.ensures.0 moved.auto.1.1.0 in record { fitting = asks.0; shown_bound = asks.1.0; below = asks.1.1.0; spare = asks.1.1.1; opened_bound = ticked_room moved.ensures.1 (omega arith) }
+work_off-o-requires c = let asks = work_asks _ _ _ _ _ _ _ _ _ _ _ c.requires.laid c.requires.n_bound c.touch_given-turn.ensures.0 c.touch_given-turn.auto.work in record { fitting = asks.0; shown_bound = asks.1.0; below = asks.1.1.0; spare = asks.1.1.1; opened_bound = ticked_room c.touch_given-turn.ensures.1 (omega arith) }
 
 pub returns-then-o : goal.returns-then-o
-returns-then-o c = let pre = (c.requires.laid, (c.requires.n_bound, c.requires.below)) in
-    let moved = c.touch_given-turn in
-    let worked = c.work_off-o in
-    let if1 = c.if-o in
-    let flags = c.cross_flags in
-    (refreshed_hit _ _ _ _ _ _ _ _ _ _ _ pre.0 pre.1.0 moved.ensures.0 moved.auto.1.1.0 _ _ _ worked.ensures.0 worked.auto.1.1.0 _ if1.true flags.ensures, ticked_crossed _ (ticked_then moved.ensures.1 worked.ensures.1) flags.ensures)
+returns-then-o c = (refreshed_hit _ _ _ _ _ _ _ _ _ _ _ c.requires.laid c.requires.n_bound c.touch_given-turn.ensures.0 c.touch_given-turn.auto.work _ _ _ c.work_off-o.ensures.0 c.work_off-o.auto.work _ c.if-o.true c.cross_flags.ensures, ticked_crossed _ (ticked_then c.touch_given-turn.ensures.1 c.work_off-o.ensures.1) c.cross_flags.ensures)
 
 pub returns-else-o : goal.returns-else-o
-returns-else-o c = let pre = (c.requires.laid, (c.requires.n_bound, c.requires.below)) in
-    let moved = c.touch_given-turn in
-    let worked = c.work_off-o in
-    (refreshed_safe _ _ _ _ _ _ _ _ _ _ _ pre.0 pre.1.0 moved.ensures.0 moved.auto.1.1.0 _ _ _ worked.ensures.0 worked.auto.1.1.0 c.if-o.false, ticked_then moved.ensures.1 worked.ensures.1)
+returns-else-o c = (refreshed_safe _ _ _ _ _ _ _ _ _ _ _ c.requires.laid c.requires.n_bound c.touch_given-turn.ensures.0 c.touch_given-turn.auto.work _ _ _ c.work_off-o.ensures.0 c.work_off-o.auto.work c.if-o.false, ticked_then c.touch_given-turn.ensures.1 c.work_off-o.ensures.1)

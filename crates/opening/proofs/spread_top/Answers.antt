@@ -7,12 +7,10 @@ use borrow.Author.Rules.{rules}
 use Rattle.opening.proofs.spread_top.Goals as goal
 
 pub touch_around-requires : goal.touch_around-requires
-touch_around-requires c = let pre = (c.requires.seated, (c.requires.top_nonzero, (c.requires.top_bound, c.requires.opened_bound))) in record { seated = seated_popped _ _ _ _ _ _ pre.0; row_lt_rows = on_grid _ _ _ pre.0.sized.column pre.1.1.0; opened_bound = pre.1.1.1 }
+touch_around-requires c = record { seated = seated_popped _ _ _ _ _ _ c.requires.seated; row_lt_rows = on_grid _ _ _ c.requires.seated.sized.column c.requires.top_bound; opened_bound = c.requires.opened_bound }
 
 pub shape_of-work : goal.shape_of-work
-shape_of-work c = let moved = c.touch_around in
-    moved.auto.1.1.0 ∙ simp length-set
+shape_of-work c = c.touch_around.auto.work ∙ simp length-set
 
 pub returns : goal.returns
-returns c = let moved = c.touch_around in
-    (around_back _ _ _ _ _ _ _ _ _ _ _ moved.ensures.0, moved.ensures.1)
+returns c = (around_back _ _ _ _ _ _ _ _ _ _ _ c.touch_around.ensures.0, c.touch_around.ensures.1)

@@ -17,18 +17,13 @@ pub loop-k-init : goal.loop-k-init
 loop-k-init c = (omega arith, around_none _ _ _ _ _ _ _ _, refl, refl, ticked_none _ _)
 
 pub neighbour_at-q-requires : goal.neighbour_at-q-requires
-neighbour_at-q-requires c = let pre = (c.requires.seated, (c.requires.row_lt_rows, c.requires.opened_bound)) in record { sized = pre.0.sized; row_lt_rows = pre.1.0; k_bound = omega arith }
+neighbour_at-q-requires c = record { sized = c.requires.seated.sized; row_lt_rows = c.requires.row_lt_rows; k_bound = omega arith }
 
 pub touch-turn-requires : goal.touch-turn-requires
-touch-turn-requires c = let pre = (c.requires.seated, (c.requires.row_lt_rows, c.requires.opened_bound)) in
-    let loop = c.loop-k in record { roomy = roomy_again _ _ _ _ _ _ _ pre.0.roomy loop.invariant.2 loop.invariant.3 (around_height _ _ _ _ _ _ _ _ _ pre.0.roomy.valued _ _ _ _ loop.invariant.1); opened_bound = ticked_room loop.invariant.4 pre.1.1 }
+touch-turn-requires c = record { roomy = roomy_again _ _ _ _ _ _ _ c.requires.seated.roomy c.loop-k.invariant.2 c.loop-k.invariant.3 (around_height _ _ _ _ _ _ _ _ _ c.requires.seated.roomy.valued _ _ _ _ c.loop-k.invariant.1); opened_bound = ticked_room c.loop-k.invariant.4 c.requires.opened_bound }
 
 pub loop-k-preserved : goal.loop-k-preserved
-loop-k-preserved c = let pre = (c.requires.seated, (c.requires.row_lt_rows, c.requires.opened_bound)) in
-    let loop = c.loop-k in
-    let next = c.neighbour_at-q in
-    let one = c.touch-turn in
-    (omega arith, around_more _ _ _ _ _ _ _ _ _ _ _ _ _ _ _ _ _ (next.ensures ∙ neighbour_at _ _ _ _ _ pre.1.0.1) loop.invariant.1 one.ensures.0, one.auto.1.0 ∙ loop.invariant.2, one.auto.1.1.0 ∙ loop.invariant.3, ticked_then loop.invariant.4 one.ensures.1)
+loop-k-preserved c = (omega arith, around_more _ _ _ _ _ _ _ _ _ _ _ _ _ _ _ _ _ (c.neighbour_at-q.ensures ∙ neighbour_at _ _ _ _ _ c.requires.row_lt_rows.1) c.loop-k.invariant.1 c.touch-turn.ensures.0, c.touch-turn.auto.shown ∙ c.loop-k.invariant.2, c.touch-turn.auto.work ∙ c.loop-k.invariant.3, ticked_then c.loop-k.invariant.4 c.touch-turn.ensures.1)
 
 pub shape_of-shown : goal.shape_of-shown
 shape_of-shown c = c.loop-k.invariant.2

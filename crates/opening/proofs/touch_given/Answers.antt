@@ -18,13 +18,10 @@ pub loop-i-init : goal.loop-i-init
 loop-i-init c = (omega arith, all_none _ _ _ _, refl, refl, ticked_none _ _)
 
 pub touch-turn-requires : goal.touch-turn-requires
-touch-turn-requires c = let pre = (c.requires.roomy, c.requires.n_bound) in
-    let loop = c.loop-i in record { roomy = roomy_again _ _ _ _ _ _ _ pre.0 loop.invariant.2 loop.invariant.3 (all_height _ _ _ _ _ _ _ _ pre.0.valued loop.invariant.1); opened_bound = ticked_room loop.invariant.4 (omega arith) }
+touch-turn-requires c = record { roomy = roomy_again _ _ _ _ _ _ _ c.requires.roomy c.loop-i.invariant.2 c.loop-i.invariant.3 (all_height _ _ _ _ _ _ _ _ c.requires.roomy.valued c.loop-i.invariant.1); opened_bound = ticked_room c.loop-i.invariant.4 (omega arith) }
 
 pub loop-i-preserved : goal.loop-i-preserved
-loop-i-preserved c = let loop = c.loop-i in
-    let one = c.touch-turn in
-    (omega arith, all_more _ _ _ _ _ _ _ _ _ _ _ _ _ _ loop.invariant.1 one.ensures.0, one.auto.1.0 ∙ loop.invariant.2, one.auto.1.1.0 ∙ loop.invariant.3, ticked_then loop.invariant.4 one.ensures.1)
+loop-i-preserved c = (omega arith, all_more _ _ _ _ _ _ _ _ _ _ _ _ _ _ c.loop-i.invariant.1 c.touch-turn.ensures.0, c.touch-turn.auto.shown ∙ c.loop-i.invariant.2, c.touch-turn.auto.work ∙ c.loop-i.invariant.3, ticked_then c.loop-i.invariant.4 c.touch-turn.ensures.1)
 
 pub shape_of-shown : goal.shape_of-shown
 shape_of-shown c = c.loop-i.invariant.2

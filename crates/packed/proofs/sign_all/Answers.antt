@@ -10,13 +10,13 @@ pub loop-i-init : goal.loop-i-init
 loop-i-init c = signing_start c.requires
 
 pub bounds-mines-i : goal.bounds-mines-i
-bounds-mines-i c = let l = c.loop-i.invariant.long in omega arith
+bounds-mines-i c = omega arith
 
 pub loop-i-preserved : goal.loop-i-preserved
 loop-i-preserved c = signing_turn c.loop-i.invariant c.signed.ensures (c.type_inv.bytes _).fits c.loop-i-test.true
 
 pub shape_of-mines : goal.shape_of-mines
-shape_of-mines c = let l = c.loop-i.invariant.long in let p = c.requires in omega arith
+shape_of-mines c = omega arith
 
 pub returns : goal.returns
 returns c = signing_done c.loop-i.invariant c.loop-i-test.false

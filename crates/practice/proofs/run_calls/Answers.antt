@@ -11,7 +11,7 @@ use borrow.Author.Rules.{rules}
 use Rattle.practice.proofs.run_calls.Goals as goal
 
 pub loop-at-init : goal.loop-at-init
-loop-at-init c = let pre = (c.requires.in_bounds, c.requires.reached) in let l = pre.0.0 in (omega arith, pre.1)
+loop-at-init c = (omega arith, c.requires.reached)
 
 pub call_length-n-requires : goal.call_length-n-requires
 call_length-n-requires c = c.loop-at.invariant.0
@@ -32,4 +32,4 @@ pub loop-at-smaller : goal.loop-at-smaller
 loop-at-smaller c = omega (arith, c.call_length-n.ensures.within)
 
 pub loop-at-preserved : goal.loop-at-preserved
-loop-at-preserved c = let w = c.call_length-n.ensures.within in (omega arith, reached_next _ _ c.call_length-n.ensures c.if-n-eq0.false c.loop-at.invariant.1 c.run_call-score.ensures)
+loop-at-preserved c = (omega arith, reached_next _ _ c.call_length-n.ensures c.if-n-eq0.false c.loop-at.invariant.1 c.run_call-score.ensures)

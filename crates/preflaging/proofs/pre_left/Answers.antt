@@ -8,8 +8,7 @@ use Rattle.preflaging.proofs.pre_left.Goals as goal
 
 pub left_at-requires : goal.left_at-requires
 left_at-requires c = let a = c.args in
-    let pre = (c.requires.able_at, c.requires.inside) in
-    let k = alike_at a.x (alike_game a.p _ _ c.with_game-q.ensures) pre.0 pre.1 in record { laid_at = k.0.laid; room_at = k.0.room; inside = k.1 }
+    let k = alike_at a.x (alike_game a.p _ _ c.with_game-q.ensures) c.requires.able_at c.requires.inside in record { laid_at = k.0.laid; room_at = k.0.room; inside = k.1 }
 
 pub returns-then-v-eq10 : goal.returns-then-v-eq10
 returns-then-v-eq10 c = leaves_by (c.left_at.ensures _) (pre_left_starts _ c.args.x c.args.p _ _ _ _ (c.seen_at-v.ensures _) (sym c.on_cell.ensures ∙ c.if-on_cell.true) c.if-v-eq10.true c.with_game-q.ensures)

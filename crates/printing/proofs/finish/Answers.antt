@@ -6,10 +6,10 @@ use borrow.Author.Rules.{rules}
 use Rattle.printing.proofs.finish.Goals as goal
 
 pub total_3bv-total-requires : goal.total_3bv-total-requires
-total_3bv-total-requires c = let pre = (c.requires.mined, (c.requires.blank, c.requires.rows_fit)) in let whole = ending_asks _ c.args.p c.wide-rows.ensures.0 c.wide-columns.ensures.0 refl pre.0 pre.1.0 in record { mined = whole.0; columns_in_bounds = whole.1.0; zeros = whole.1.1 }
+total_3bv-total-requires c = let whole = ending_asks _ c.args.p c.wide-rows.ensures.0 c.wide-columns.ensures.0 refl c.requires.mined c.requires.blank in record { mined = whole.0; columns_in_bounds = whole.1.0; zeros = whole.1.1 }
 
 pub left_to_solve-left-requires : goal.left_to_solve-left-requires
-left_to_solve-left-requires c = let pre = (c.requires.mined, (c.requires.blank, c.requires.rows_fit)) in let whole = ending_asks _ c.args.p c.wide-rows.ensures.0 c.wide-columns.ensures.0 c.total_3bv-total.ensures.same pre.0 pre.1.0 in record { mined = whole.0; columns_in_bounds = whole.1.0; zeros = whole.1.1 }
+left_to_solve-left-requires c = let whole = ending_asks _ c.args.p c.wide-rows.ensures.0 c.wide-columns.ensures.0 c.total_3bv-total.ensures.same c.requires.mined c.requires.blank in record { mined = whole.0; columns_in_bounds = whole.1.0; zeros = whole.1.1 }
 
 pub overflow_cast-total : goal.overflow_cast-total
 overflow_cast-total c = let small = total_small _ c.args.p c.wide-rows.ensures.0 c.wide-columns.ensures.0 c.requires.mined c.total_3bv-total.ensures in omega (arith, small)
@@ -18,5 +18,4 @@ pub overflow_cast-left : goal.overflow_cast-left
 overflow_cast-left c = let small = left_small _ c.args.p c.wide-rows.ensures.0 c.wide-columns.ensures.0 _ c.requires.mined c.left_to_solve-left.ensures in omega (arith, small)
 
 pub returns : goal.returns
-returns c = let a = c.args in let rows = c.wide-rows.ensures.0 in let columns = c.wide-columns.ensures.0 in let total = c.total_3bv-total.ensures in let left = c.left_to_solve-left.ensures in
-    record { put = ending_put _ a.p rows columns a.shown.now total left c.put_end.ensures; same = left.same ∙ total.same }
+returns c = let a = c.args in record { put = ending_put _ a.p c.wide-rows.ensures.0 c.wide-columns.ensures.0 a.shown.now c.total_3bv-total.ensures c.left_to_solve-left.ensures c.put_end.ensures; same = c.left_to_solve-left.ensures.same ∙ c.total_3bv-total.ensures.same }

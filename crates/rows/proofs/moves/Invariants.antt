@@ -6,6 +6,8 @@ use borrow.Author.Tests.{not-false}
 use borrow.Author.Rules.{rules}
 use Rattle.rows.specs.Rows.{Moves}
 use Rattle.rows.proofs.Runs.{moves_none, moves_more}
+use mathlib.Core.Path.{ap}
+use mathlib.Core.Bool.{not}
 use Rattle.rows.proofs.moves.Given as goal
 
 abbrev pub invariant-loop-n : goal.invariant-loop-n

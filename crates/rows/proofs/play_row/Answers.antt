@@ -13,25 +13,25 @@ pub loop-e-init : goal.loop-e-init
 loop-e-init c = (row_start _ _ _ c.args.p _ _ _ c.requires.lawful_at, omega arith, c.requires.from_le_to.0)
 
 pub overflow_sub-to : goal.overflow_sub-to
-overflow_sub-to c = let t = c.loop-e-test.true in omega arith
+overflow_sub-to c = omega arith
 
 pub overflow_sub-q : goal.overflow_sub-q
 overflow_sub-q c = c.loop-e.invariant.0.lawful.few
 
 pub moves-n-requires : goal.moves-n-requires
-moves-n-requires c = let t = c.loop-e-test.true in let z = c.requires.from_le_to.1 in omega arith
+moves-n-requires c = omega arith
 
 pub count_moves-o-requires : goal.count_moves-o-requires
-count_moves-o-requires c = let a = c.moves-n.ensures.1.1 in let b = c.loop-e.invariant.0.lawful.few in omega arith
+count_moves-o-requires c = omega arith
 
 pub overflow_add-e : goal.overflow_add-e
-overflow_add-e c = let a = c.moves-n.ensures.1.0 in let t = c.loop-e-test.true in omega (arith, c.ranges.to)
+overflow_add-e c = omega (arith, c.ranges.to)
 
 pub loop-e-smaller-then-n-ne0 : goal.loop-e-smaller-then-n-ne0
-loop-e-smaller-then-n-ne0 c = let a = c.moves-n.ensures.1.0 in let t = c.loop-e-test.true in let z = c.if-n-ne0.true in omega arith
+loop-e-smaller-then-n-ne0 c = omega arith
 
 pub loop-e-preserved-then-n-ne0 : goal.loop-e-preserved-then-n-ne0
-loop-e-preserved-then-n-ne0 c = let a = c.moves-n.ensures.1.0 in let b = c.moves-n.ensures.1.1 in let f = c.loop-e.invariant.0.lawful.few in let t = c.loop-e-test.true in (row_run _ _ _ _ _ _ _ _ _ _ c.loop-e.o c.count_moves-o.result c.loop-e.invariant.1 c.if-n-ne0.true c.moves-n.ensures.0 (omega arith) c.count_moves-o.ensures c.loop-e.invariant.0, counted_small c.loop-e.o.position c.moves-n.result c.count_moves-o.result c.count_moves-o.ensures, omega arith)
+loop-e-preserved-then-n-ne0 c = (row_run _ _ _ _ _ _ _ _ _ _ c.loop-e.o c.count_moves-o.result c.loop-e.invariant.1 c.if-n-ne0.true c.moves-n.ensures.0 (omega arith) c.count_moves-o.ensures c.loop-e.invariant.0, counted_small c.loop-e.o.position c.moves-n.result c.count_moves-o.result c.count_moves-o.ensures, omega arith)
 
 pub play_record-o-requires : goal.play_record-o-requires
 play_record-o-requires c = record { lawful_at = c.loop-e.invariant.0.lawful; blank = row_blank c.loop-e.invariant.0 c.requires.blank }
@@ -46,16 +46,16 @@ pub shape_of-work-then-o-ge20 : goal.shape_of-work-then-o-ge20
 shape_of-work-then-o-ge20 c = ap length (row_next _ _ _ _ _ _ c.loop-e.o _ _ _ c.loop-e.invariant.0 c.loop-e.invariant.1 c.play_record-o.result _ _ _ c.play_record-o.ensures).lent
 
 pub returns-then-o-ge20 : goal.returns-then-o-ge20
-returns-then-o-ge20 c = let t = c.loop-e-test.true in let w = row_next _ _ _ _ _ _ c.loop-e.o _ _ _ c.loop-e.invariant.0 c.loop-e.invariant.1 c.play_record-o.result _ _ _ c.play_record-o.ensures in record { outcome = row_refused _ _ _ _ _ _ _ c.play_record-o.result _ _ _ w (omega arith) c.if-o-ge20.true; same = w.lent }
+returns-then-o-ge20 c = let w = row_next _ _ _ _ _ _ c.loop-e.o _ _ _ c.loop-e.invariant.0 c.loop-e.invariant.1 c.play_record-o.result _ _ _ c.play_record-o.ensures in record { outcome = row_refused _ _ _ _ _ _ _ c.play_record-o.result _ _ _ w (omega arith) c.if-o-ge20.true; same = w.lent }
 
 pub overflow_add-e-else-n-ne0 : goal.overflow_add-e-else-n-ne0
-overflow_add-e-else-n-ne0 c = let t = c.loop-e-test.true in omega (arith, c.ranges.to)
+overflow_add-e-else-n-ne0 c = omega (arith, c.ranges.to)
 
 pub loop-e-smaller : goal.loop-e-smaller
-loop-e-smaller c = let t = c.loop-e-test.true in omega arith
+loop-e-smaller c = omega arith
 
 pub loop-e-preserved : goal.loop-e-preserved
-loop-e-preserved c = let t = c.loop-e-test.true in (row_next _ _ _ _ _ _ c.loop-e.o _ _ _ c.loop-e.invariant.0 c.loop-e.invariant.1 c.play_record-o.result _ _ _ c.play_record-o.ensures, c.if-o-ge20.false, omega arith)
+loop-e-preserved c = (row_next _ _ _ _ _ _ c.loop-e.o _ _ _ c.loop-e.invariant.0 c.loop-e.invariant.1 c.play_record-o.result _ _ _ c.play_record-o.ensures, c.if-o-ge20.false, omega arith)
 
 pub shape_of-shown : goal.shape_of-shown
 shape_of-shown c = row_cells _ _ _ _ _ _ 0 c.loop-e.o _ _ _ c.loop-e.invariant.0 c.requires.lawful_at
@@ -67,4 +67,4 @@ pub shape_of-work : goal.shape_of-work
 shape_of-work c = ap length c.loop-e.invariant.0.lent
 
 pub returns : goal.returns
-returns c = record { outcome = row_end _ _ _ _ _ _ _ c.loop-e.o _ _ _ c.loop-e.invariant.0 (let t = c.loop-e-test.false in let z = c.loop-e.invariant.2 in omega arith); same = c.loop-e.invariant.0.lent }
+returns c = record { outcome = row_end _ _ _ _ _ _ _ c.loop-e.o _ _ _ c.loop-e.invariant.0 (omega arith); same = c.loop-e.invariant.0.lent }

@@ -5,4 +5,4 @@ use borrow.Author.Rules.{rules}
 use Rattle.scrub.proofs.drag_on.Goals as goal
 
 pub tell-requires : goal.tell-requires
-tell-requires c = let l = c.drag_to-o.auto.shown in let p = c.requires.columns_in_bounds in let x = c.ranges.n in told_of c.args.s.now c.args.b c.requires.b_value.0 c.requires.b_value.1 _ _ _ _ _ _ _ _ c.drag_to-o.result _ _ _ _ _ c.drag_to-o.ensures (omega arith) _ (omega arith)
+tell-requires c = told_of c.args.s.now c.args.b c.requires.b_value.0 c.requires.b_value.1 _ _ _ _ _ _ _ _ c.drag_to-o.result _ _ _ _ _ c.drag_to-o.ensures (omega arith) _ (omega arith)

@@ -7,22 +7,22 @@ use borrow.Author.Rules.{rules}
 use Rattle.scrub.proofs.go.Goals as goal
 
 pub slice_bounds-mines-end : goal.slice_bounds-mines-end
-slice_bounds-mines-end c = let f = (book_sized c.args.s.now c.args.b c.requires.0 c.requires.1).cells in let e = c.cell_count-cells.ensures.0 in let m = c.mine_board-mines.ensures in omega arith
+slice_bounds-mines-end c = let f = (book_sized c.args.s.now c.args.b c.requires.0 c.requires.1).cells in omega arith
 
 pub slice_bounds-drag_on-end : goal.slice_bounds-drag_on-end
-slice_bounds-drag_on-end c = let f = (book_sized c.args.s.now c.args.b c.requires.0 c.requires.1).cells in let e = c.cell_count-cells.ensures.0 in let m = c.mine_board-mines.ensures in sym (length-take-le _ _ (omega arith))
+slice_bounds-drag_on-end c = let f = (book_sized c.args.s.now c.args.b c.requires.0 c.requires.1).cells in sym (length-take-le _ _ (omega arith))
 
 pub slice_bounds-shown-end : goal.slice_bounds-shown-end
-slice_bounds-shown-end c = let f = (book_sized c.args.s.now c.args.b c.requires.0 c.requires.1).cells in let e = c.cell_count-cells.ensures.0 in let m = c.shown_board-shown.ensures in omega arith
+slice_bounds-shown-end c = let f = (book_sized c.args.s.now c.args.b c.requires.0 c.requires.1).cells in omega arith
 
 pub slice_bounds-drag_on-end-2 : goal.slice_bounds-drag_on-end-2
-slice_bounds-drag_on-end-2 c = let f = (book_sized c.args.s.now c.args.b c.requires.0 c.requires.1).cells in let e = c.cell_count-cells.ensures.0 in let m = c.shown_board-shown.ensures in sym (length-take-le _ _ (omega arith))
+slice_bounds-drag_on-end-2 c = let f = (book_sized c.args.s.now c.args.b c.requires.0 c.requires.1).cells in sym (length-take-le _ _ (omega arith))
 
 pub slice_bounds-bits-end : goal.slice_bounds-bits-end
-slice_bounds-bits-end c = let f = (book_sized c.args.s.now c.args.b c.requires.0 c.requires.1).cells in let e = c.cell_count-cells.ensures.0 in let m = c.flag_bits-bits.ensures in omega arith
+slice_bounds-bits-end c = let f = (book_sized c.args.s.now c.args.b c.requires.0 c.requires.1).cells in omega arith
 
 pub slice_bounds-drag_on-end-3 : goal.slice_bounds-drag_on-end-3
-slice_bounds-drag_on-end-3 c = let f = (book_sized c.args.s.now c.args.b c.requires.0 c.requires.1).cells in let e = c.cell_count-cells.ensures.0 in let m = c.flag_bits-bits.ensures in sym (length-take-le _ _ (omega arith))
+slice_bounds-drag_on-end-3 c = let f = (book_sized c.args.s.now c.args.b c.requires.0 c.requires.1).cells in sym (length-take-le _ _ (omega arith))
 
 pub drag_on-requires : goal.drag_on-requires
-drag_on-requires c = record { b_value = c.requires; columns_in_bounds = (let f = (book_sized c.args.s.now c.args.b c.requires.0 c.requires.1).cells in let e = c.cell_count-cells.ensures.0 in let m = c.shown_board-shown.ensures in let l = length-take-le c.cell_count-cells.result c.shown_board-shown.result (omega arith) in omega arith) }
+drag_on-requires c = record { b_value = c.requires; columns_in_bounds = (let f = (book_sized c.args.s.now c.args.b c.requires.0 c.requires.1).cells in let l = length-take-le c.cell_count-cells.result c.shown_board-shown.result (omega arith) in omega arith) }

@@ -10,7 +10,7 @@ pub refuse-requires : goal.refuse-requires
 refuse-requires c = opened_place c.args.s.now c.«open».result c.«open».ensures c.requires
 
 pub slice_bounds-walk-end : goal.slice_bounds-walk-end
-slice_bounds-walk-end c = let a = c.at_most-most.ensures in let r = c.room_bytes-room.ensures in sym (length-take-le _ _ (omega arith))
+slice_bounds-walk-end c = sym (length-take-le _ _ (omega arith))
 
 pub walk-requires : goal.walk-requires
 walk-requires c = (c.read_book-b.ensures, opened_book c.args.s.now c.«open».result c.«open».ensures c.if-o-ne0.false c.read_book-b.result c.read_book-b.ensures)

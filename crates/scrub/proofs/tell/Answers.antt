@@ -7,10 +7,10 @@ use borrow.Author.Rules.{rules}
 use Rattle.scrub.proofs.tell.Goals as goal
 
 pub slice_bounds-out-end : goal.slice_bounds-out-end
-slice_bounds-out-end c = let f = c.requires.fits in let t = c.text_room-out.ensures in told_fits c.put_drag-n.ensures (omega arith)
+slice_bounds-out-end c = told_fits c.put_drag-n.ensures (omega arith)
 
 pub slice_bounds-hand-end : goal.slice_bounds-hand-end
-slice_bounds-hand-end c = let f = c.requires.fits in let t = c.text_room-out.ensures in sym (length-take-le _ _ (told_fits c.put_drag-n.ensures (omega arith)))
+slice_bounds-hand-end c = sym (length-take-le _ _ (told_fits c.put_drag-n.ensures (omega arith)))
 
 pub hand-requires : goal.hand-requires
-hand-requires c = let f = c.requires.fits in let t = c.text_room-out.ensures in told_whole c.put_drag-n.ensures (omega arith)
+hand-requires c = told_whole c.put_drag-n.ensures (omega arith)

@@ -13,7 +13,7 @@ pub shape_of-room-then-not-t : goal.shape_of-room-then-not-t
 shape_of-room-then-not-t c = c.take_word-t.auto.room ∙ c.loop-i.invariant
 
 pub loop-i-smaller : goal.loop-i-smaller
-loop-i-smaller c = let t = c.loop-i-test.true in omega arith
+loop-i-smaller c = omega arith
 
 pub loop-i-preserved : goal.loop-i-preserved
 loop-i-preserved c = c.take_word-t.auto.room ∙ c.loop-i.invariant

@@ -9,6 +9,8 @@ use borrow.Author.Rules.{rules}
 use Rattle.rules.specs.Picture.{is_shown}
 use Rattle.boards.proofs.Tests.{says_no, says_yes}
 use Rattle.showing.proofs.Shown.{at_all, all_fails}
+use mathlib.Core.Path.{ap}
+use mathlib.Core.Bool.{not}
 use Rattle.showing.proofs.all_shown.Given as goal
 
 abbrev pub invariant-loop-i : goal.invariant-loop-i

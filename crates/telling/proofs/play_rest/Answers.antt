@@ -15,7 +15,7 @@ pub shape_of-bits-then-not-read_lent : goal.shape_of-bits-then-not-read_lent
 shape_of-bits-then-not-read_lent c = c.read_lent.auto.bits
 
 pub slice_bounds-write_all-end-2 : goal.slice_bounds-write_all-end-2
-slice_bounds-write_all-end-2 c = let s = c.read_lent.auto.shown in let b = c.read_lent.auto.bits in let p = c.requires.bits_in_bounds in let h = c.tell_step-n.ensures.short in let n = c.tell_step-n.ensures.put.next in let l = c.tell_step-n.auto.out in sym (length-take-le _ _ (omega arith))
+slice_bounds-write_all-end-2 c = sym (length-take-le _ _ (omega arith))
 
 pub shape_of-bytes : goal.shape_of-bytes
 shape_of-bytes c = c.read_lent.auto.bytes

@@ -4,7 +4,7 @@ use borrow.Author.Rules.{rules}
 use Rattle.telling.proofs.tell_step.Goals as goal
 
 pub put_outcome-requires : goal.put_outcome-requires
-put_outcome-requires c = let s = c.call-a.auto.shown in let b = c.call-a.auto.bits in let p = c.requires.bits_in_bounds in omega arith
+put_outcome-requires c = omega arith
 
 pub returns : goal.returns
 returns c = let a = c.args in

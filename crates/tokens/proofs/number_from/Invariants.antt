@@ -7,6 +7,8 @@ use borrow.Author.Rules.{rules}
 use borrow.Author.Tests.{not-true, not-false}
 use Rattle.rules.specs.Picture.{number_from}
 use Rattle.tokens.proofs.Tokens.{Counting, counting_start, counting_turn, counting_stops, counting_ends}
+use mathlib.Core.Path.{ap}
+use mathlib.Core.Bool.{not}
 use Rattle.tokens.proofs.number_from.Given as goal
 
 abbrev pub invariant-loop-at : goal.invariant-loop-at

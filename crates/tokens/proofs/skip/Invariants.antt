@@ -8,6 +8,8 @@ use borrow.Author.Rules.{rules}
 use borrow.Author.Tests.{not-true, not-false}
 use Rattle.rules.specs.Picture.{skipped}
 use Rattle.tokens.proofs.Skipping.{skip_turn, skip_stops, skip_ends}
+use mathlib.Core.Path.{ap}
+use mathlib.Core.Bool.{not}
 use Rattle.tokens.proofs.skip.Given as goal
 
 abbrev pub invariant-loop-at : goal.invariant-loop-at

@@ -15,10 +15,10 @@ pub loop-k-init : goal.loop-k-init
 loop-k-init c = let a = c.args in (omega arith, none_all (beside a.rows a.columns a.shown.now a.cell) 0 (λ i l. absurd (omega arith)))
 
 pub neighbour_at-q-requires : goal.neighbour_at-q-requires
-neighbour_at-q-requires c = let pre = (c.requires.sized, (c.requires.shown_len, c.requires.cell_bound)) in record { sized = pre.0; row_lt_rows = on_grid _ _ _ pre.0.column pre.1.1; k_bound = c.loop-k-test.true }
+neighbour_at-q-requires c = record { sized = c.requires.sized; row_lt_rows = on_grid _ _ _ c.requires.sized.column c.requires.cell_bound; k_bound = c.loop-k-test.true }
 
 pub justifies_at-fine-requires : goal.justifies_at-fine-requires
-justifies_at-fine-requires c = let pre = (c.requires.sized, (c.requires.shown_len, c.requires.cell_bound)) in record { sized = pre.0; shown_len = pre.1.0 }
+justifies_at-fine-requires c = record { sized = c.requires.sized; shown_len = c.requires.shown_len }
 
 pub returns-then-fine : goal.returns-then-fine
 returns-then-fine c = let a = c.args in

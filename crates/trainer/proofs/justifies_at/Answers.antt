@@ -15,7 +15,7 @@ pub returns-then-v-gt8 : goal.returns-then-v-gt8
 returns-then-v-gt8 c = justifies_high _ _ _ _ c.if-v-lt1.false c.if-v-gt8.true
 
 pub shown_around-seen-requires : goal.shown_around-seen-requires
-shown_around-seen-requires c = record { sized = c.requires.sized; row_lt_rows = on_grid _ _ _ c.requires.sized.column (let l = c.if-shown-cell.false in let e = c.requires.shown_len in omega arith); shown_len = c.requires.shown_len }
+shown_around-seen-requires c = record { sized = c.requires.sized; row_lt_rows = on_grid _ _ _ c.requires.sized.column (omega arith); shown_len = c.requires.shown_len }
 
 pub returns : goal.returns
 returns c = let a = c.args in justifies_flags _ _ _ _ (cell_back a.columns a.cell) c.if-v-lt1.false c.if-v-gt8.false c.shown_around-seen.ensures.flag

@@ -9,7 +9,7 @@ pub returns-then-shown-i : goal.returns-then-shown-i
 returns-then-shown-i c = offer_none _ _ _ c.requires.shown_len c.offered_cell-i.ensures c.if-shown-i.true
 
 pub hint_at-requires : goal.hint_at-requires
-hint_at-requires c = let e = c.requires.shown_len in let l = c.if-shown-i.false in record { sized = c.requires.sized; shown_len = c.requires.shown_len; cell_bound = omega arith; cell_bound_2 = offer_justified _ _ c.args.shown.now c.requires.shown_len c.offered_cell-i.ensures c.if-shown-i.false }
+hint_at-requires c = record { sized = c.requires.sized; shown_len = c.requires.shown_len; cell_bound = omega arith; cell_bound_2 = offer_justified _ _ c.args.shown.now c.requires.shown_len c.offered_cell-i.ensures c.if-shown-i.false }
 
 pub returns : goal.returns
 returns c = c.hint_at.ensures ∙ offer_cell _ _ _ c.requires.shown_len c.offered_cell-i.ensures c.if-shown-i.false

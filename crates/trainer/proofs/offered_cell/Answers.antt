@@ -15,14 +15,10 @@ pub loop-i-init : goal.loop-i-init
 loop-i-init c = let a = c.args in (refl, omega arith, none_all (offered a.rows a.columns a.shown.now) 0 (λ i l. absurd (omega arith)))
 
 pub offered_at-fine-requires : goal.offered_at-fine-requires
-offered_at-fine-requires c = let pre = (c.requires.sized, c.requires.shown_len) in
-    let e = pre.1 in let d = c.loop-i.invariant.0 in let l = c.loop-i-test.true in record { sized = pre.0; shown_len = pre.1; cell_bound = omega arith }
+offered_at-fine-requires c = record { sized = c.requires.sized; shown_len = c.requires.shown_len; cell_bound = omega arith }
 
 pub returns-then-fine : goal.returns-then-fine
 returns-then-fine c = let a = c.args in
-    let e = c.requires.shown_len in
-    let d = c.loop-i.invariant.0 in
-    let l = c.loop-i-test.true in
     first_found (offered a.rows a.columns a.shown.now) _ _ c.loop-i.invariant.2 (sym c.offered_at-fine.ensures ∙ c.if-fine.true) (omega arith)
 
 pub loop-i-preserved : goal.loop-i-preserved

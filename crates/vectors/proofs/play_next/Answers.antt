@@ -6,4 +6,4 @@ use borrow.Author.Rules.{rules}
 use Rattle.vectors.proofs.play_next.Goals as goal
 
 pub slice_bounds-play_in-end : goal.slice_bounds-play_in-end
-slice_bounds-play_in-end c = let t = c.large_buffer-bytes.ensures in let h = c.requires in sym (length-take-le _ _ (omega arith))
+slice_bounds-play_in-end c = sym (length-take-le _ _ (omega arith))

@@ -7,7 +7,7 @@ use Rattle.verdicts.proofs.put_tail.Goals as goal
 
 -- src/lib.rt:38:76
 pub overflow_cast-place : goal.overflow_cast-place
-overflow_cast-place c = let p = c.requires.v_bound in let e = ap place_in c.in-Refused.is in record { fits = omega arith }
+overflow_cast-place c = let e = ap place_in c.in-Refused.is in record { fits = omega arith }
 
 -- src/lib.rt:38:50
 pub put_told-requires : goal.put_told-requires
