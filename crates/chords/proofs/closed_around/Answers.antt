@@ -19,7 +19,7 @@ neighbour_at-q-requires c = record { sized = c.requires.sized; row_lt_rows = on_
 
 pub add_closed-c-requires : goal.add_closed-c-requires
 add_closed-c-requires c = let a = c.args in
-    let b : c.neighbour_at-q.result ≤ a.rows * a.columns = rw c.neighbour_at-q.ensures (cell_before_le a.rows a.columns _ _) in let whole = omega arith in record { q_bound = whole.0; n_bound = whole.1 }
+    let b : c.neighbour_at-q.result ≤ a.rows * a.columns = rw c.neighbour_at-q.ensures (cell_before_le a.rows a.columns _ _) in record { q_bound = omega arith; n_bound = omega arith }
 
 pub loop-k-preserved : goal.loop-k-preserved
 loop-k-preserved c = let a = c.args in (omega arith, collected_turn _ _ a.shown.now _ _ _ _ _ c.requires.sized.column c.loop-k-test.true c.loop-k.invariant.1 c.neighbour_at-q.ensures c.add_closed-c.ensures)

@@ -5,7 +5,7 @@ use borrow.Author.Rules.{rules}
 use Rattle.gliding.proofs.glide_row.Goals as goal
 
 pub play_row-o-requires : goal.play_row-o-requires
-play_row-o-requires c = record { lawful_at = c.requires.lawful_at; blank = c.requires.blank; from_le_to = (omega arith, let c.stop_after-at.ensures.after = c.stop_after-at.ensures.within in omega arith) }
+play_row-o-requires c = record { lawful_at = c.requires.lawful_at; blank = c.requires.blank; from_le_to = (omega arith, omega arith) }
 
 pub returns-then-o-ge20 : goal.returns-then-o-ge20
 returns-then-o-ge20 c = record { stops = c.stop_after-at.ensures; leaves = record { outcome = row_refuses c.args.mines.now c.args.section.now c.args.k c.args.e c.args.to c.requires.le_k.0 c.args.p c.args.shown.now c.args.bits.now c.args.work.now c.requires.lawful_at c.stop_after-at.ensures c.play_row-o.result _ _ _ c.play_row-o.ensures _ _ c.if-o-ge20.true; same = c.play_row-o.ensures.same } }

@@ -11,6 +11,9 @@ loop-left-init c = going_start _ _ _ _ _ c.requires
 pub overflow_add-end : goal.overflow_add-end
 overflow_add-end c = let i = going_inside _ _ _ _ _ c.requires c.loop-left.invariant (omega arith) in search rules
 
+pub slice_bounds-put_row-end : goal.slice_bounds-put_row-end
+slice_bounds-put_row-end c = going_inside _ _ _ _ _ c.requires c.loop-left.invariant (omega arith)
+
 pub put_row-o-requires : goal.put_row-o-requires
 put_row-o-requires c = (going_row _ _ _ _ _ c.requires c.loop-left.invariant (omega arith), going_room _ _ _ _ _ c.requires c.loop-left.invariant (λ i. omega (arith, c.type_inv.shown i)) (omega arith))
 
