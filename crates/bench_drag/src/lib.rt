@@ -1,5 +1,6 @@
 // What the bench calls to drag a slider over a book: slices and numbers only.
 #![tactic(auto)]
+
 ghost use Rattle.bench_drag.specs.Leaves.{DragLeaves};
 
 use slider::Slider;

@@ -1,5 +1,6 @@
 // What the bench calls to open and to play: inner functions under plain names, numbers and slices only.
 #![tactic(auto)]
+
 ghost use Rattle.std.specs.Prelude.{◌≡◌, [], ◌∷◌, ◌*◌, ◌<◌};
 ghost use Rattle.rules.specs.Opening.{refreshed};
 ghost use Rattle.cells.specs.Promises.{Laid, Ticked};

@@ -1,5 +1,6 @@
 // What the bench calls to play a book and print it: slices only.
 #![tactic(auto)]
+
 ghost use Rattle.player.specs.Rooms.{PrintBookIs};
 
 // `player::print_book`: a book read, set up, played and printed.

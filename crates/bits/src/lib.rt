@@ -1,6 +1,7 @@
 // The flagged-before bits: bit number row * columns + column, lowest bit of a byte first, set and tested by shifts and masks.
 // The contracts cite rules' Lent; proofs/Bits.antt has the laws that callers cite.
 #![tactic(auto)]
+
 ghost use Rattle.std.specs.Prelude.{◌≡◌, ◌<◌, ◌/◌, length};
 ghost use Rattle.rules.specs.Lent.{bit_at, with_bit};
 

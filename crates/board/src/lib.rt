@@ -1,6 +1,7 @@
 // THE PUBLIC FACE: what `calls` and `resolving` offer, and here one plain event and a row of events. No public function has a `requires`: for every input its
 // contract, one equation of rules' Promises, determines the answer, the position, the value and every lent list.
 #![tactic(auto)]
+
 ghost use Rattle.std.specs.Prelude.{◌≡◌, List, ℕ, ◌≤◌, leb, length};
 ghost use Rattle.rules.specs.Words.{pick};
 ghost use Rattle.rules.specs.Lent.{work_room};

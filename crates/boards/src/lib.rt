@@ -1,6 +1,7 @@
 // The board check, refusals 20 to 24, with the cell that is wrong; how many cells are safe; and the fresh desk.
 // The contracts cite Board and Calls of rules; specs/ has what the search for that cell requires.
 #![tactic(auto)]
+
 ghost use Rattle.std.specs.Prelude.{◌≡◌, true, ◌*◌, ◌<◌, ◌≤◌, length};
 ghost use Rattle.rules.specs.Words.{first_not};
 ghost use Rattle.rules.specs.Grid.{cell_of};

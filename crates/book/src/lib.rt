@@ -1,6 +1,7 @@
 // The reader of the game book: what a byte string says as a book, and the parts of it that hold the mines and the event records.
 // The contracts cite the format of rules/specs/Book.antt and the parts of specs/Parts.antt; every function takes every byte string.
 #![tactic(auto)]
+
 ghost use Rattle.std.specs.Prelude.{◌≡◌, ◌<◌, ◌≤◌, ◌+◌, ◌*◌, length};
 ghost use Rattle.rules.specs.Grid.{cell_of};
 ghost use Rattle.rules.specs.Book.{word_at, refused_book, rules_at, mine_count_at, events_from, mines_section, sections_of, book_ends, book_of, part_of};

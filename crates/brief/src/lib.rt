@@ -2,6 +2,7 @@
 // the mouse state alone, a flag that no pass follows, a number opened. Each changes a few parts of the position and at most one cell.
 // The contracts cite rules' Step; specs/Briefly says what is left of an event that is not brief: everything.
 #![tactic(auto)]
+
 ghost use Rattle.std.specs.Prelude.{◌≡◌, ◌&&◌, List, ℕ, ◌*◌, ◌<◌, ltb, length, ℤ};
 ghost use Rattle.rules.specs.States.{is_playing};
 ghost use Rattle.rules.specs.Clicks.{desk};

@@ -1,6 +1,7 @@
 // A click where the pointer is, and what a button does alike in PreFlaging and Playing, over the position by value and the lent boards.
 // Each function meets the definition of its name in rules' Step.
 #![tactic(auto)]
+
 ghost use Rattle.std.specs.Prelude.{◌≡◌, List, ℕ, ◌+◌, ◌*◌, ◌<◌, ◌≤◌};
 ghost use Rattle.rules.specs.States.{mouse_number, with_middle};
 ghost use Rattle.rules.specs.Clicks.{desk, done};

@@ -1,6 +1,7 @@
 // The public calls that play no event: the board's own, setup and reset, the checks, and what is counted. None has a `requires`: for every input
 // its contract, one equation of rules' Promises, determines the answer, the position, the value and every lent list.
 #![tactic(auto)]
+
 ghost use Rattle.std.specs.Prelude.{◌≡◌, ◌+◌, ◌*◌, ◌≤◌, length};
 ghost use Rattle.rules.specs.Lent.{bit_bytes, work_room};
 ghost use Rattle.rules.specs.Calls.{cells_in, answers, set_up, setup_by};

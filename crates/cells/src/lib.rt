@@ -1,6 +1,7 @@
 // Leaves over the boards: the neighbours of a cell in row order, what a cell shows once open, counts around a cell, lent lists filled, and the tests of a size and a mode.
 // A cell is given by its row and column, which its caller takes apart once. The contracts cite rules' Grid and Board, and specs/Ground.
 #![tactic(auto)]
+
 ghost use Rattle.std.specs.Prelude.{◌≡◌, ◌++◌, ℕ, ◌+◌, ◌*◌, ◌/◌, ◌%◌, ◌<◌, ◌≤◌, eqb, leb, length, get_or, drop, replicate};
 ghost use Rattle.rules.specs.Words.{bit};
 ghost use Rattle.rules.specs.Grid.{size_ok, cell_of, ninth, cell_before, around};

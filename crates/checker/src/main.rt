@@ -1,6 +1,7 @@
 // Reads a game book with claims on standard input, plays it and writes the checker's verdict, one line.
 // Of a longer input one byte more than any such book has is read: the verdict is that on the whole, by the law `prefix_check`.
 #![tactic(auto)]
+
 ghost use Rattle.std.specs.Prelude.{◌≡◌, ◌<◌, length};
 ghost use Rattle.rules.specs.Claims.{verdict_line, check_of};
 

@@ -1,6 +1,7 @@
 // The checker and the second program on a byte string, as calls: every byte string is taken, in room of their own.
 // The contracts cite rules/specs/Claims.antt.
 #![tactic(auto)]
+
 ghost use Rattle.std.specs.Prelude.{◌≡◌};
 ghost use Rattle.rules.specs.Claims.{is_ended, unclaimed, CheckBookIs, ClaimBookIs};
 

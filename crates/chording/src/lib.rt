@@ -1,6 +1,7 @@
 // The chord pass over lent slices: scans that chord each useful cell, until one opens nothing or the game is over.
 // The contracts cite rules' Passes; specs/ has what the parts require and ensure.
 #![tactic(auto)]
+
 ghost use Rattle.std.specs.Prelude.{◌≡◌, not, ◌&&◌, List, ℕ, ◌+◌, ◌-◌, ◌*◌, ◌<◌, ◌≤◌, length};
 ghost use Rattle.rules.specs.Words.{every};
 ghost use Rattle.rules.specs.States.{is_playing};

@@ -1,6 +1,7 @@
 // The chord without the counts of the hand.
 // The contracts cite rules' Clicks.
 #![tactic(auto)]
+
 ghost use Rattle.std.specs.Prelude.{◌≡◌, ◌+◌, ◌*◌, ◌/◌, ◌<◌, ◌≤◌, length};
 ghost use Rattle.rules.specs.Words.{pick, stack_of};
 ghost use Rattle.rules.specs.Grid.{cell_of};

@@ -1,6 +1,7 @@
 // Reads a game book without claims on standard input and writes the whole book with its claims, or the line of its refusal.
 // Of a longer input one byte more than any book has is read: what is written is that of the whole, by the law `prefix_claim`.
 #![tactic(auto)]
+
 ghost use Rattle.std.specs.Prelude.{◌≡◌, ◌<◌, ◌≤◌, length};
 ghost use Rattle.rules.specs.Claims.{claim_text_of};
 

@@ -1,6 +1,7 @@
 // The claims section of a position: 38 bytes; and room for a book with one.
 // The contracts cite Claims for the bytes and Put of writing for what writing is.
 #![tactic(auto)]
+
 ghost use Rattle.std.specs.Prelude.{◌≡◌, length};
 ghost use Rattle.rules.specs.Claims.{four, fours, claims_of};
 ghost use Rattle.writing.specs.Put.{Room, Put};

@@ -1,6 +1,7 @@
 // The claims section of a visiting book: read with the book that it follows, and held to what the game says.
 // The contracts cite rules/specs/Claims.antt, which gives document 02's number and values for every verdict.
 #![tactic(auto)]
+
 ghost use Rattle.std.specs.Prelude.{◌≡◌, ◌+◌, ◌<◌, ◌≤◌, length};
 ghost use Rattle.rules.specs.Claims.{verdict_number, claims_section, claimed_book_of, long_at, claim_at, ten_values, claims_judged};
 

@@ -1,6 +1,7 @@
 // The left click, and how every opening ends.
 // The contracts cite rules' Clicks, and specs/Parts for what the parts of a left click ask and do.
 #![tactic(auto)]
+
 ghost use Rattle.std.specs.Prelude.{◌≡◌, List, [], ◌∷◌, ℕ, ◌+◌, ◌-◌, ◌*◌, ◌<◌, ◌≤◌, length, ℤ};
 ghost use Rattle.rules.specs.Words.{stack_of, bit};
 ghost use Rattle.rules.specs.States.{with_left, with_lce, with_solved_left};

@@ -1,6 +1,7 @@
 // The library for C and Rust firmware: board's calls and the book reader under plain names, over lent slices and a flat position whose states
 // are bytes. Every byte pattern is taken; a state byte that means nothing is refused with 264, after 20 to 263 (specs/Promises.antt).
 #![tactic(auto)]
+
 ghost use Rattle.std.specs.Prelude.{◌≡◌};
 ghost use Rattle.rules.specs.Promises.{NumberMinesIs};
 ghost use Rattle.console.specs.Promises.{CheckBoardIs, SetupIs, ResetIs, ResolveIs, StepIs, StepFlowIs, CheckPositionIs, StepGameStateIs, BbbvSolvedIs, LeftToSolveIs, Total3bvIs, ReadBookIs};

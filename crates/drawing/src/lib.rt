@@ -1,6 +1,7 @@
 // The writer of a picture, plain PGM: a shown board in its one plain form. It takes every board and every room, and a refusal writes nothing.
 // The contracts cite rules/specs/Picture.antt for the texts and Put of writing for what writing is.
 #![tactic(auto)]
+
 ghost use Rattle.std.specs.Prelude.{◌∷◌, [], ◌++◌};
 ghost use Rattle.rules.specs.Printout.{decimal};
 ghost use Rattle.rules.specs.Picture.{number_lines, plain_form, WritePictureIs};

@@ -1,6 +1,7 @@
 // An accepted book's events played, in room of its own: the last play, accepted or refused.
 // The contracts cite specs/Ends.antt; what is lent to the game is a part of the rooms for every book.
 #![tactic(auto)]
+
 ghost use Rattle.std.specs.Prelude.{◌≡◌};
 ghost use Rattle.rules.specs.Book.{book_of};
 ghost use Rattle.printing.specs.Boards.{Fit};

@@ -1,6 +1,7 @@
 // What a plain event whose pointer is good is refused with, 31 to 33.
 // Nothing here writes. The contracts cite rules' Step.
 #![tactic(auto)]
+
 ghost use Rattle.std.specs.Prelude.{◌≡◌, true, false, not, ◌||◌, List, ℕ, eqb, leb, ltb};
 ghost use Rattle.rules.specs.Words.{unless};
 ghost use Rattle.rules.specs.Clicks.{desk};

@@ -1,6 +1,7 @@
 // The flag pass over lent boards: one scan in row order flags the closed neighbours of each ripe cell as it comes to it.
 // The contracts cite rules' Passes; specs/ has the scan, and what its parts require and ensure.
 #![tactic(auto)]
+
 ghost use Rattle.std.specs.Prelude.{◌≡◌, ◌+◌, ◌*◌, ◌<◌, ◌≤◌, length};
 ghost use Rattle.rules.specs.States.{with_flag};
 ghost use Rattle.rules.specs.Grid.{cell_of};

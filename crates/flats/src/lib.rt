@@ -1,6 +1,7 @@
 // The flat forms of a position, an answer, a value and a book, which cross into C, and what their bytes mean (specs/Flat.antt).
 // Every byte pattern is taken; a state byte that means nothing is read as the last state, and `means` says that there is one.
 #![tactic(auto)]
+
 ghost use Rattle.std.specs.Prelude.{◌≡◌};
 ghost use Rattle.rules.specs.Words.{bit};
 ghost use Rattle.flats.specs.Flat.{means, settings_of, position_in, flat_of, gives, flat_answer, flat_value, flat_book};

@@ -1,6 +1,7 @@
 // A row of events on a lawful position: its next event, for whoever plays one, and the row whole, with its moves counted together.
 // The contracts cite rules' Calls, `game`'s specs/Core and specs/Runs; `keep` gives that every step leaves what the next one asks.
 #![tactic(auto)]
+
 ghost use Rattle.std.specs.Prelude.{◌≡◌, true, ◌+◌, ◌%◌, ◌≤◌, length, get_or};
 ghost use Rattle.rules.specs.States.{with_events};
 ghost use Rattle.rules.specs.Clicks.{desk};

@@ -1,6 +1,7 @@
 // Reads a picture on standard input and prints its rows as the printout does, or `refused N`.
 // It reads 1,048,576 bytes at most: of a longer input it says so, and nothing else.
 #![tactic(auto)]
+
 ghost use Rattle.std.specs.Prelude.{◌≡◌, ◌≤◌, length};
 ghost use Rattle.rules.specs.Picture.{rows_printed};
 ghost use Rattle.writing.specs.Put.{PutWithin};

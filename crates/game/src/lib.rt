@@ -1,6 +1,7 @@
 // One event on a lawful position. Nothing is tested here that the lawful position gives.
 // The contracts cite rules' Step, and specs/Core; `keep` gives that every step leaves what the next one asks.
 #![tactic(auto)]
+
 ghost use Rattle.std.specs.Prelude.{◌≡◌, ◌<◌};
 ghost use Rattle.rules.specs.States.{with_events};
 ghost use Rattle.rules.specs.Clicks.{desk};

@@ -1,6 +1,7 @@
 // An accepted book's game played and printed: the settings' line, a line for each event, and the end.
 // The contracts cite rules/specs/Printout.antt; specs/Events.antt has what is said of the events.
 #![tactic(auto)]
+
 ghost use Rattle.std.specs.Prelude.{◌≡◌, ◌≤◌, length};
 ghost use Rattle.rules.specs.Clicks.{desk};
 ghost use Rattle.rules.specs.Book.{book_of};

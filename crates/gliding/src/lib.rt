@@ -1,6 +1,7 @@
 // The slider's way from one event to another, on a lawful desk: row by row, and a desk is kept where a row ends.
 // The contracts cite specs/Glides.antt over the chapter Slides.
 #![tactic(auto)]
+
 ghost use Rattle.std.specs.Prelude.{◌≡◌, ◌≤◌, ◌<◌};
 ghost use Rattle.rules.specs.Clicks.{desk};
 ghost use Rattle.cells.specs.Promises.{Leaves};

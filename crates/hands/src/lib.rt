@@ -1,6 +1,7 @@
 // The right click and the chord by hand, which the passes follow.
 // The contracts cite rules' Passes; specs/Hand has the count of a chord.
 #![tactic(auto)]
+
 ghost use Rattle.std.specs.Prelude.{◌≡◌, ◌*◌, ◌<◌, ◌≤◌};
 ghost use Rattle.rules.specs.Passes.{right_click, chording_click};
 ghost use Rattle.cells.specs.Promises.{AbleAt, Plays};

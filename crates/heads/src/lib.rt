@@ -1,6 +1,7 @@
 // What stands before the cells of a picture: the mark, the width, the height, the maximum. Every function takes every byte string.
 // The contracts cite rules/specs/Picture.antt; specs/Headed.antt has a head by its places.
 #![tactic(auto)]
+
 ghost use Rattle.std.specs.Prelude.{◌≡◌};
 ghost use Rattle.rules.specs.Picture.{is_marked, height_of, maximum_of, rest_of, size_refusal, maximum_refusal};
 ghost use Rattle.heads.specs.Headed.{Headed};

@@ -1,6 +1,7 @@
 // Reads a game book on standard input, plays it as `replay` does and prints the hint for its last shown board; a refused book prints its refusal.
 // Of a longer input one byte more than any book has is read: the hint is that of the whole, by the law `prefix_hint`.
 #![tactic(auto)]
+
 ghost use Rattle.std.specs.Prelude.{◌≡◌, ◌<◌, length};
 ghost use Rattle.rules.specs.Book.{book_of};
 ghost use Rattle.rules.specs.Trainer.{book_hint};

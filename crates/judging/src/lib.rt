@@ -1,6 +1,7 @@
 // The opening walks of a left click and of a chord, left to solve and the 3BV total. Stack and marks stand in the lent work, which comes back as it was.
 // The contracts cite rules' Judging, and specs/Parts for what the inner functions do.
 #![tactic(auto)]
+
 ghost use Rattle.std.specs.Prelude.{◌≡◌, true, false, [], ◌+◌, ◌-◌, ◌*◌, ◌<◌, ◌≤◌, eqb, length, get_or, set};
 ghost use Rattle.rules.specs.Words.{stack_of};
 ghost use Rattle.rules.specs.Grid.{push_if, cells_if, pushed};

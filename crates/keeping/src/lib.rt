@@ -1,6 +1,7 @@
 // A whole desk in a slot of a lent room of bytes: the position, the shown board and the bits, put and taken up again; and which desk is kept.
 // The contracts cite the chapter Slides for the bytes and `writing`'s specs/Put.antt for what writing is; the caller gives the room.
 #![tactic(auto)]
+
 ghost use Rattle.std.specs.Prelude.{◌≡◌, ◌+◌, ◌<◌, ◌≤◌, length, drop};
 ghost use Rattle.rules.specs.Words.{bit};
 ghost use Rattle.rules.specs.Clicks.{desk};

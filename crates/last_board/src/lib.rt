@@ -1,6 +1,7 @@
 // A book played to its end, for programs that want its last shown board and not its printout: the board, or the text of the book's refusal.
 // The contract cites specs/Last.antt: what stands in the two rooms afterwards.
 #![tactic(auto)]
+
 ghost use Rattle.std.specs.Prelude.{◌≡◌, ◌<◌, length};
 ghost use Rattle.last_board.specs.Last.{Ended};
 

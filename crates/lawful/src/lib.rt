@@ -1,6 +1,7 @@
 // 261 to 264: the lawful position, clause by clause, in the four parts and the order of rules' Lawful: shown values, bits, counts, what the states ask.
 // One scan counts the shown board. The tests of the counts are made in 64 bits, where no sum of given counts wraps.
 #![tactic(auto)]
+
 ghost use Rattle.std.specs.Prelude.{◌≡◌, List, ℕ, ◌+◌, ◌*◌, ◌<◌, ◌≤◌, length, ℤ};
 ghost use Rattle.rules.specs.declared.Position.{Position};
 ghost use Rattle.rules.specs.States.{is_loss, is_not_flag};

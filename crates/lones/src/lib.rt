@@ -1,6 +1,7 @@
 // The numbers without a 0 neighbour, lone numbers for short: one cell, a chord's cells, and those not open of a row and of the whole board.
 // The contracts cite rules/specs/Board.antt and Judging.antt; specs/Counts.antt has what the counts ensure.
 #![tactic(auto)]
+
 ghost use Rattle.std.specs.Prelude.{◌≡◌, ◌&&◌, ◌*◌, ◌<◌, ◌≤◌};
 ghost use Rattle.rules.specs.Words.{bit, stack_of};
 ghost use Rattle.rules.specs.Grid.{cell_of};

@@ -1,6 +1,7 @@
 // The right click but for the passes that follow it: a flag set, with the bit of its mine, and taken back.
 // The contracts cite rules' Clicks, and specs/Mark for what marking a mine leaves.
 #![tactic(auto)]
+
 ghost use Rattle.std.specs.Prelude.{◌≡◌, List, ℕ, ◌+◌, ◌/◌, ◌<◌, ◌≤◌, length};
 ghost use Rattle.rules.specs.Words.{pick};
 ghost use Rattle.rules.specs.States.{with_right};

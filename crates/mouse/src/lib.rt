@@ -1,6 +1,7 @@
 // What the hand's codes mean: the table of the seven mouse states, resolving l, r and m, pointers and events.
 // Nothing here writes. The contracts cite rules' Mouse and Step.
 #![tactic(auto)]
+
 ghost use Rattle.std.specs.Prelude.{◌≡◌, true, false, ◌&&◌, ◌||◌, List, ℕ, ◌+◌, ◌*◌, ◌<◌, eqb, ltb, get_or};
 ghost use Rattle.rules.specs.Words.{pick};
 ghost use Rattle.rules.specs.Grid.{cell_of};

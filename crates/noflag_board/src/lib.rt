@@ -2,6 +2,7 @@
 // `requires`: for every input its contract, one equation of rules' specs/Noflag.antt, determines the answer, the position, the value and every
 // lent list.
 #![tactic(auto)]
+
 ghost use Rattle.std.specs.Prelude.{◌≡◌, ltb};
 ghost use Rattle.rules.specs.Clicks.{desk};
 ghost use Rattle.rules.specs.Step.{pointer_of};

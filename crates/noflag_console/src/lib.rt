@@ -1,6 +1,7 @@
 // The library for firmware of the no-flag class: its setup, step and book reading, and the board's reset, under plain names, over the console's flat
 // position (specs/Promises.antt). Every byte pattern is taken; a state byte that means nothing is refused with 264, after 20 to 263.
 #![tactic(auto)]
+
 ghost use Rattle.std.specs.Prelude.{◌≡◌};
 ghost use Rattle.console.specs.Promises.{ResetIs};
 ghost use Rattle.noflag_console.specs.Promises.{SetupIs, StepIs, ReadBookIs};

@@ -1,6 +1,7 @@
 // A book of the no-flag class read, played and printed, or the one line of a refused book: the house's own row of events up to the first forbidden one,
 // then that one's line. The contracts cite specs/Printing.antt and rules' specs/Noflag.antt.
 #![tactic(auto)]
+
 ghost use Rattle.std.specs.Prelude.{◌≡◌, ◌%◌, ◌≤◌, length};
 ghost use Rattle.rules.specs.Noflag.{class_book_of, class_printout_of};
 ghost use Rattle.printing.specs.Boards.{Fit};

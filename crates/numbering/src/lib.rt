@@ -1,6 +1,7 @@
 // Numbering a board from a mine list: refusals 20, 21, 42 and 24, or the whole numbered board.
 // The contracts cite Board and Calls of rules; specs/ has what the passes do to a board.
 #![tactic(auto)]
+
 ghost use Rattle.std.specs.Prelude.{◌≡◌, ℕ, ◌*◌, ◌<◌, length, replicate, pos};
 ghost use Rattle.rules.specs.Words.{every};
 ghost use Rattle.rules.specs.Board.{mines_in, mine_cell, mine_ok, numbering_refusal};

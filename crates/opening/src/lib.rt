@@ -1,6 +1,7 @@
 // Opening cells: `refresh_board` over flat lent slices, with the lent work as its stack. A cell is opened when it is found, and only a 0 goes on
 // the stack: specs/Quick says so, and proofs/Quick that the outcome is that of rules' Opening. The laws of opening stand in proofs/Opening.
 #![tactic(auto)]
+
 ghost use Rattle.std.specs.Prelude.{◌≡◌, true, false, [], ◌+◌, ◌-◌, ◌*◌, ◌<◌, ◌≤◌, length, get_or, set};
 ghost use Rattle.rules.specs.Words.{stack_of};
 ghost use Rattle.rules.specs.Grid.{cell_of};

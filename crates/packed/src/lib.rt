@@ -2,6 +2,7 @@
 // specs/Packed.antt has the layout, specs/Line.antt the line. A state's byte above the last state means the last one, and a yes or no above 1
 // means yes: no step that the oracle packs has such a byte.
 #![tactic(auto)]
+
 ghost use Rattle.std.specs.Prelude.{◌≡◌, ◌<◌, ◌≤◌, length};
 ghost use Rattle.writing.specs.Put.{PutWithin};
 ghost use Rattle.packed.specs.Packed.{two_at, four_at, settings_in, counts_in, secrets_in, position_in, signed_of, signed_all};

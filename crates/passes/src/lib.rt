@@ -1,6 +1,7 @@
 // Both automatic passes by turns, and which modes run which after what.
 // The contracts cite rules' Passes; specs/ has what both by turns require and ensure.
 #![tactic(auto)]
+
 ghost use Rattle.std.specs.Prelude.{◌≡◌, ◌||◌, eqb};
 ghost use Rattle.rules.specs.Clicks.{desk};
 ghost use Rattle.rules.specs.Passes.{both_round, both_pass, passes_after_flag, passes_after_chord};

@@ -1,6 +1,7 @@
 // A book read, played and printed, or the one line of a refused book, in lent room or on an open file.
 // The contracts cite specs/Rooms.antt: what is lent, and what stands there afterwards.
 #![tactic(auto)]
+
 ghost use Rattle.std.specs.Prelude.{◌≡◌, length};
 ghost use Rattle.rules.specs.Book.{book_of};
 ghost use Rattle.rules.specs.Printout.{printout_of};

@@ -1,6 +1,7 @@
 // One plain event while Playing.
 // Each function meets the definition of its name in rules' Step.
 #![tactic(auto)]
+
 ghost use Rattle.std.specs.Prelude.{◌≡◌, ◌≤◌};
 ghost use Rattle.rules.specs.States.{mouse_number};
 ghost use Rattle.rules.specs.Step.{playing as playingOf, play_rc};

@@ -1,6 +1,7 @@
 // Runs a row of the trainer's calls, for stored answers: the score to start from and then the calls on standard input, a line for each on standard
 // output. specs/Practice.antt has the bytes and the lines. It reads 65,536 bytes at most; the rest of a longer input is not read.
 #![tactic(auto)]
+
 ghost use Rattle.std.specs.Prelude.{◌≡◌, ◌∷◌, [], ◌++◌, ◌+◌, ◌<◌, ◌≤◌, length};
 ghost use Rattle.rules.specs.Printout.{spaced};
 ghost use Rattle.writing.specs.Put.{PutWithin};

@@ -1,6 +1,7 @@
 // One plain event in PreFlaging, and what the left button does there.
 // Each function meets the definition of its name in rules' Step.
 #![tactic(auto)]
+
 ghost use Rattle.std.specs.Prelude.{◌≡◌, ℕ, ◌≤◌, get_or};
 ghost use Rattle.rules.specs.States.{mouse_number};
 ghost use Rattle.rules.specs.Step.{pre_left, pre_lr, pre_flaging as preFlagingOf};

@@ -1,6 +1,7 @@
 // What stands around the events of a printed game: the boards that a book begins with, the line of a play, and the end.
 // The contracts cite rules/specs/Printout.antt; specs/Boards.antt has what is said of the boards.
 #![tactic(auto)]
+
 ghost use Rattle.std.specs.Prelude.{◌≡◌, ◌∷◌, [], ◌+◌, ◌*◌, ◌≤◌, length};
 ghost use Rattle.rules.specs.States.{game_number, mouse_number};
 ghost use Rattle.rules.specs.Clicks.{desk};

@@ -1,6 +1,7 @@
 // What a call on a flat position is made on, and what it answers. A state byte that means nothing is refused by the call's own chain: with its number
 // for what the bytes are read as, else with 264; and the bytes go back as they were given (specs/Reading.antt).
 #![tactic(auto)]
+
 ghost use Rattle.std.specs.Prelude.{◌≡◌, leb};
 ghost use Rattle.rules.specs.Words.{pick};
 ghost use Rattle.reads.specs.Reading.{Spoils, Reads, answer_for, reset_for};

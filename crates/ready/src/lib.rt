@@ -1,6 +1,7 @@
 // One plain event in Ready.
 // Each function meets the definition of its name in rules' Step.
 #![tactic(auto)]
+
 ghost use Rattle.std.specs.Prelude.{◌≡◌, ◌&&◌, List, ℕ, ◌≤◌, eqb};
 ghost use Rattle.rules.specs.declared.GameState.TheVariants.{PreFlaging};
 ghost use Rattle.rules.specs.States.{mouse_number};

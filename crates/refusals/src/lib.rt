@@ -2,6 +2,7 @@
 // that applies, or 0. The contracts cite rules' Calls; specs/Rows.antt has the table of all refusals, and proofs/Places.antt that each stands in
 // its place.
 #![tactic(auto)]
+
 ghost use Rattle.std.specs.Prelude.{◌≡◌, true, ◌*◌, length};
 ghost use Rattle.rules.specs.Words.{unless};
 ghost use Rattle.rules.specs.Clicks.{desk};

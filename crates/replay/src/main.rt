@@ -1,6 +1,7 @@
 // Reads a game book on standard input and prints what it gives. Of a longer input one byte more than any book has is read:
 // the printout is that of the whole, by book's law `prefix_printout`.
 #![tactic(auto)]
+
 use libc::{STDIN_FILENO, STDOUT_FILENO};
 
 fn main() {

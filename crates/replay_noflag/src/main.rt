@@ -1,5 +1,6 @@
 // Reads a game book of the no-flag class on standard input and prints what it gives. Of a longer input one byte more than any book has is read.
 #![tactic(auto)]
+
 use libc::{STDIN_FILENO, STDOUT_FILENO};
 
 fn main() {

@@ -1,6 +1,7 @@
 // Resolving as a call of its own: l, r or m into a plain code, for a caller that then steps with it.
 // Nothing here writes, and no event is counted. The contract is an equation of rules' Promises.
 #![tactic(auto)]
+
 ghost use Rattle.rules.specs.Promises.{ResolveIs};
 
 use rules::{Answer, Decoded, Position};

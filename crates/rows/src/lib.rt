@@ -1,6 +1,7 @@
 // A row of records on a lawful desk: each is read through the reader and played; moves that follow each other are counted together.
 // The contracts cite specs/Rows.antt over the chapter Slides.
 #![tactic(auto)]
+
 ghost use Rattle.std.specs.Prelude.{◌≡◌, ◌+◌, ◌≤◌};
 ghost use Rattle.rules.specs.Clicks.{desk};
 ghost use Rattle.rules.specs.States.{with_events};

@@ -1,6 +1,7 @@
 // Drags a slider over a game book on standard input: `scrub K ROOM N..`, with a position kept after every K events in ROOM bytes. For each N, or the
 // word `reset`, it writes what the slider answers. Of a longer input one byte more than any book has is read.
 #![tactic(auto)]
+
 ghost use Rattle.std.specs.Prelude.{◌≡◌, ◌+◌, ◌*◌, ◌<◌, ◌≤◌, length};
 ghost use Rattle.rules.specs.Book.{book_of};
 ghost use Rattle.rules.specs.Slides.{drag_text};

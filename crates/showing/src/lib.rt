@@ -1,6 +1,7 @@
 // A shown board by itself: the values that a cell can show, and the refusals 20, 21 and 261 of a board that is lent alone.
 // The contracts cite rules/specs/Picture.antt.
 #![tactic(auto)]
+
 ghost use Rattle.std.specs.Prelude.{◌≡◌};
 ghost use Rattle.rules.specs.Picture.{is_shown, all_shown, shown_refusal};
 

@@ -1,6 +1,7 @@
 // An accepted drag, from the fresh desk: from the largest kept desk not after n, if what stands in its slot can be right, else from the start.
 // The contracts cite specs/Drag.antt over the chapter Slides.
 #![tactic(auto)]
+
 ghost use Rattle.std.specs.Prelude.{◌≡◌, ◌&&◌, ◌/◌, ◌≤◌, eqb, ltb, leb};
 ghost use Rattle.rules.specs.Words.{pick};
 ghost use Rattle.rules.specs.Clicks.{desk};

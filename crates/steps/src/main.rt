@@ -2,6 +2,7 @@
 // The library `packed` has the layout and the line, `telling` the rest of a step, read, played and told. A step that is cut off ends the program.
 // The files stdin and stdout are the Rust's stored answers, made by `oracle/vectors`.
 #![tactic(auto)]
+
 ghost use Rattle.std.specs.Prelude.{◌≡◌, length};
 ghost use Rattle.steps.specs.Rooms.{Rooms};
 

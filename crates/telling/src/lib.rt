@@ -1,6 +1,7 @@
 // A packed step whose head is given: the rest of it read from standard input, played with `board`'s calls and told on standard output.
 // The contract of a step told cites specs/Told.antt, its line.
 #![tactic(auto)]
+
 ghost use Rattle.std.specs.Prelude.{◌≡◌, ◌≤◌, length};
 ghost use Rattle.writing.specs.Put.{PutWithin};
 ghost use Rattle.packed.specs.Line.{outcome_room};

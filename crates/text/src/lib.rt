@@ -1,6 +1,7 @@
 // The printout's lines, written into a lent buffer: each function writes its text from a place on and answers the place after it.
 // The contracts cite rules/specs/Printout.antt and specs/ for the texts and Put of writing for what writing is; the caller gives the room.
 #![tactic(auto)]
+
 ghost use Rattle.std.specs.Prelude.{◌∷◌, [], ◌<◌, ◌≤◌, ◌+◌, ◌*◌, length};
 ghost use Rattle.rules.specs.Printout.{line_of, word_line, word_counts, word_bv, game_line, nine_counts, row_lines};
 ghost use Rattle.writing.specs.Put.{Room, Put, PutWithin};

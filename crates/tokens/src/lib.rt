@@ -1,6 +1,7 @@
 // Tokens of a picture: white space and comments skipped, and numbers, counted no further than 100. Every function over the bytes takes every byte string.
 // The contracts cite rules/specs/Picture.antt; specs/Taken.antt has a token by its places.
 #![tactic(auto)]
+
 ghost use Rattle.std.specs.Prelude.{◌≡◌, true, false, ◌+◌, ◌-◌, ◌*◌, length, drop};
 ghost use Rattle.rules.specs.Picture.{is_space, is_digit, is_gap, runs_on, skipped, number_from, token_of};
 ghost use Rattle.tokens.specs.Taken.{counted, ended_at, Taken};

@@ -1,6 +1,7 @@
 // The trainer: a hint on a shown board, and the score of hints asked for and followed. No function here, and none that it calls, is given a mine board.
 // The contracts cite rules/specs/Trainer.antt.
 #![tactic(auto)]
+
 ghost use Rattle.std.specs.Prelude.{◌≡◌, ◌*◌, ◌/◌, ◌%◌, ◌<◌, length};
 ghost use Rattle.cells.specs.Ground.{Sized};
 ghost use Rattle.rules.specs.Trainer.{justifies, offered, offered_cell, justifier, hint_at, offer_of, one_more_of, points_at, after_hint, HintIs, AskIs, ReportIs};

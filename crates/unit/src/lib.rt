@@ -1,6 +1,7 @@
 // The library for the practice unit: the trainer's calls under plain names, over lent bytes and a flat score. Every byte pattern is taken
 // (specs/Unit.antt).
 #![tactic(auto)]
+
 ghost use Rattle.std.specs.Prelude.{◌≡◌};
 ghost use Rattle.unit.specs.Unit.{place_in, score_in, flat_score, flat_hint, flat_advice, HintIs, AskIs, ReportIs};
 

@@ -1,6 +1,7 @@
 // Plays packed books: standard input has up to 65,536, each after its length in two bytes, low byte first; their printouts are written one after the other.
 // The files stdin and stdout are the Rust's stored answers, made by `oracle/vectors`.
 #![tactic(auto)]
+
 ghost use Rattle.std.specs.Prelude.{◌<◌, ◌≤◌};
 
 use libc::{STDIN_FILENO, STDOUT_FILENO};

@@ -1,6 +1,7 @@
 // The line of a verdict, written into a lent buffer from a place on; the answer is the place after it.
 // The contracts cite Claims for the text and Put of writing for what writing is; the caller gives the room.
 #![tactic(auto)]
+
 ghost use Rattle.std.specs.Prelude.{◌<◌, ◌≤◌, ◌+◌, length};
 ghost use Rattle.rules.specs.Claims.{told, tail, verdict_line};
 ghost use Rattle.writing.specs.Put.{Room, Put, PutWithin};

@@ -1,6 +1,7 @@
 // The reader of a picture, plain PGM. It takes every byte string and every room, and a refusal writes nothing: all is judged before a cell is written.
 // The contracts cite rules/specs/Picture.antt.
 #![tactic(auto)]
+
 ghost use Rattle.std.specs.Prelude.{◌≡◌, ◌≤◌, length, drop};
 ghost use Rattle.rules.specs.Picture.{next_cell, cell_values, cells_refusal, ReadPictureIs};
 ghost use Rattle.writing.specs.Put.{Put};

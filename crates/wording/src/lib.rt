@@ -1,6 +1,7 @@
 // A hint in words, written into a lent buffer from a place on; the answer is the place after it.
 // The contracts cite rules' chapter on the trainer for the words and Put of writing for what writing is; the caller gives the room.
 #![tactic(auto)]
+
 ghost use Rattle.std.specs.Prelude.{◌+◌, ◌≤◌, length};
 ghost use Rattle.rules.specs.Trainer.{hint_words};
 ghost use Rattle.writing.specs.Put.{Room, Put, PutWithin};

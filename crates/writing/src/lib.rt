@@ -1,6 +1,7 @@
 // Bytes, decimal numbers and lines of numbers, written into a lent buffer: each function writes its text from a place on and answers the place after it.
 // The contracts cite rules/specs/Printout.antt for the texts and specs/Put.antt for what writing is; the caller gives the room.
 #![tactic(auto)]
+
 ghost use Rattle.std.specs.Prelude.{◌≡◌, ◌∷◌, [], ◌+◌, ◌/◌, ◌%◌, ◌<◌};
 ghost use Rattle.rules.specs.Printout.{decimal, spaced, line_of, word_line};
 ghost use Rattle.writing.specs.Put.{Room, Put};

@@ -1,7 +1,6 @@
 -- `bench_drag::bench_drag` meets its contract: the slider's own.
 use mathlib.Core.Path.{ap}
 use Rattle.rules.specs.Slides.{Dragged}
-use borrow.Author.Rules.{rules}
 use Rattle.bench_drag.proofs.bench_drag.Goals as goal
 
 pub returns : goal.returns

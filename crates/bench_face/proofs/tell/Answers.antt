@@ -1,9 +1,7 @@
 -- `bench_face::tell` meets its contract.
-use mathlib.Core.Path.{◌≡◌, refl}
-use Prim.Native.Nat.{◌≤◌, ◌-◌}
+use mathlib.Core.Path.{refl}
 use native.Mathlib.Omega.{arith}
-use borrow.Author.Rules.{rules}
-use lib.ListN.{length, length-set}
+use lib.ListN.{length-set}
 use Rattle.bench_face.proofs.tell.Goals as goal
 
 pub loop-i-init : goal.loop-i-init

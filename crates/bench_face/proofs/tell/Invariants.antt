@@ -1,9 +1,7 @@
 -- `bench_face::tell` meets its contract.
-use mathlib.Core.Path.{◌≡◌, refl}
+use mathlib.Core.Path.{◌≡◌}
 use Prim.Native.Nat.{◌≤◌, ◌-◌}
-use native.Mathlib.Omega.{arith}
-use borrow.Author.Rules.{rules}
-use lib.ListN.{length, length-set}
+use lib.ListN.{length}
 use Rattle.bench_face.proofs.tell.Given as goal
 
 abbrev pub invariant-loop-i : goal.invariant-loop-i

@@ -1,11 +1,9 @@
 -- `bits::set_bit` meets its contract: the shifted one stays within the byte. Assumes nothing.
-use borrow.Author.Rules.{rules}
 use native.Mathlib.Omega.{arith}
 use native.Mathlib.Nat.{one-mul}
 use mathlib.Core.Path.{◌∙◌, ap}
 use Prim.Native.Nat.{ℕ, ◌/◌, ◌%◌, ◌^◌}
 use lib.Bits.{bit_or}
-use lib.Dec.{lit<}
 use lib.Pow.{shl_exact}
 use lib.ListN.{get_or, set}
 use Rattle.rules.specs.Lent.{with_bit}

@@ -1,5 +1,4 @@
 -- `bits::test_bit` meets its contract: a mask of one bit is a remainder. Assumes nothing.
-use borrow.Author.Rules.{rules}
 use mathlib.Core.Path.{ap}
 use Prim.Native.Nat.{ℕ, ◌/◌, ◌%◌, ◌^◌}
 use lib.Dec.{eqb}

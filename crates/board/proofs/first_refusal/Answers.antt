@@ -2,7 +2,6 @@
 use mathlib.Core.Path.{◌∙◌, refl}
 use borrow.Author.Tests.{lt-ltb, le-ltb}
 use Rattle.rules.specs.Step.{refusal_at}
-use borrow.Author.Rules.{rules}
 use Rattle.board.proofs.first_refusal.Goals as goal
 
 pub returns-then-events-lt3 : goal.returns-then-events-lt3

@@ -6,7 +6,6 @@ use Rattle.keep.proofs.Step.{pointer_inside}
 use Rattle.game.proofs.Steps.{step_bad, step_decoded, plain_resolved, resolved_asks, resolved_refused, resolved_played}
 use Rattle.refusals.proofs.Faults.{lent_placeable}
 use Rattle.board.proofs.Stepping.{step_unfit, step_heard, step_done, settings_kept, step_opened, played_small, refused_large, lent_room, lent_kept}
-use borrow.Author.Rules.{rules}
 use Rattle.board.proofs.step.Goals as goal
 
 pub refuse-requires : goal.refuse-requires

@@ -1,6 +1,5 @@
 -- `board::step_flow` meets its contract.
 use mathlib.Core.Path.{◌∙◌, sym}
-use borrow.Author.Rules.{rules}
 use Rattle.rules.specs.Clicks.{desk}
 use Rattle.refusals.proofs.Faults.{flow_placeable}
 use Rattle.board.proofs.Flowing.{flow_unfit, flow_first, flow_done, first_large, any_accepted_lem, flow_settings, flow_room, flow_kept, flow_whole}

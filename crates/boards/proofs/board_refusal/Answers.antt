@@ -1,6 +1,5 @@
 -- `boards::board_refusal` meets its contract: each return is one case of the chain; what passed gives the callees what they require. Assumes nothing.
 use borrow.Author.Tests.{not-true, not-false}
-use borrow.Author.Rules.{rules}
 use Rattle.cells.proofs.Face.{values_valued}
 use Rattle.boards.proofs.Tests.{says_no, says_yes, mined_at, numbers_at, refused_size, refused_fit, refused_values, refused_numbers, refused_last}
 use mathlib.Core.Path.{ap}

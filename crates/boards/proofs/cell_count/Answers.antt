@@ -1,6 +1,5 @@
 -- `boards::cell_count` meets its contract: a product of two bytes fits. Assumes nothing.
 use native.Mathlib.Omega.{arith}
-use borrow.Author.Rules.{rules}
 use Rattle.cells.proofs.Words.{bytes_product, product_same}
 use Rattle.boards.proofs.cell_count.Goals as goal
 

@@ -1,7 +1,6 @@
 -- `boards::fault_of` meets its contract: the search that the number names. Assumes nothing.
 use mathlib.Core.Path.{ap, ap₂, sym, ◌∙◌}
 use Prim.Native.Nat.{ℕ}
-use borrow.Author.Rules.{rules}
 use lib.ListN.{length}
 use Rattle.rules.specs.Words.{first_not}
 use Rattle.rules.specs.Board.{value_ok_at, number_ok, place_of}

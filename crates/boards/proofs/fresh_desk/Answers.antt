@@ -1,6 +1,5 @@
 -- `boards::fresh_desk` meets its contract: both boards are filled over their whole length.
 use native.Mathlib.Omega.{arith}
-use borrow.Author.Rules.{rules}
 use Rattle.boards.proofs.Fresh.{filled_fresh}
 use Rattle.boards.proofs.fresh_desk.Goals as goal
 

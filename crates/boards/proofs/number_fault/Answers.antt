@@ -1,7 +1,6 @@
 -- `boards::number_fault` meets its contract: the rows before `row` are right. Assumes nothing.
 use mathlib.Core.Path.{◌≡◌, ap, sym, ◌∙◌}
-use mathlib.Core.Bool.{true}
-use Prim.Native.Nat.{ℕ, ◌*◌, ◌≤◌, ◌-◌}
+use Prim.Native.Nat.{ℕ, ◌*◌}
 use native.Mathlib.Omega.{arith}
 use borrow.Author.Rules.{rules}
 use lib.ListN.{length}
@@ -37,10 +36,10 @@ returns-then-column-columns c = let a = c.args in
 
 pub loop-row-preserved : goal.loop-row-preserved
 loop-row-preserved c = let a = c.args in (
-      search rules,
-      row_passed (number_ok a.mines.now a.rows a.columns) a.columns c.loop-row.row c.row_fault-column.result
-          c.loop-row.invariant.1 c.row_fault-column.ensures (search rules),
-    )
+  search rules,
+  row_passed (number_ok a.mines.now a.rows a.columns) a.columns c.loop-row.row c.row_fault-column.result
+      c.loop-row.invariant.1 c.row_fault-column.ensures (search rules),
+)
 
 pub returns : goal.returns
 returns c = let a = c.args in

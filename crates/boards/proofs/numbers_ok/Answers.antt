@@ -1,7 +1,6 @@
 -- `boards::numbers_ok` meets its contract: no number is wrong exactly where the search comes to the end. Assumes nothing.
 use mathlib.Core.Path.{ap, ◌∙◌}
 use Prim.Native.Nat.{ℕ}
-use borrow.Author.Rules.{rules}
 use lib.Dec.{eqb}
 use lib.ListN.{length}
 use Rattle.rules.specs.Board.{number_ok, numbers_ok}

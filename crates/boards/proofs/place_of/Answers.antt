@@ -1,9 +1,8 @@
 -- `boards::place_of` meets its contract: a row below 65 and a column below 256 are bytes. Assumes nothing.
 use mathlib.Core.Path.{ap}
-use Prim.Native.Nat.{ℕ, ◌+◌, ◌*◌, ◌/◌, ◌%◌, ◌<◌}
+use Prim.Native.Nat.{ℕ, ◌<◌}
 use native.Mathlib.Nat.{div-lt_iff_lt-mul, mod-lt}
 use native.Mathlib.Omega.{arith}
-use borrow.Author.Rules.{rules}
 use Rattle.rules.specs.Board.{place_of}
 use Rattle.boards.proofs.place_of.Goals as goal
 

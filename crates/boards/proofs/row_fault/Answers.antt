@@ -1,7 +1,6 @@
 -- `boards::row_fault` meets its contract: the numbers of the row before `column` are right. Assumes nothing.
-use mathlib.Core.Path.{◌≡◌, refl, sym}
+use mathlib.Core.Path.{refl, sym}
 use mathlib.Core.Bool.{true}
-use Prim.Native.Nat.{◌≤◌, ◌-◌}
 use native.Mathlib.Omega.{arith}
 use borrow.Author.Rules.{rules}
 use Rattle.rules.specs.Words.{every}
@@ -29,10 +28,10 @@ returns-then-not-number_ok c = let a = c.args in
 
 pub loop-column-preserved : goal.loop-column-preserved
 loop-column-preserved c = let a = c.args in (
-      search rules,
-      every_turn (λ j. number_ok a.mines.now a.rows a.columns (cell_of a.columns a.row j))
-          c.loop-column.column c.loop-column.invariant.1 (says_yes c.number_ok.ensures (ap not c.if-not-number_ok.false)),
-    )
+  search rules,
+  every_turn (λ j. number_ok a.mines.now a.rows a.columns (cell_of a.columns a.row j))
+      c.loop-column.column c.loop-column.invariant.1 (says_yes c.number_ok.ensures (ap not c.if-not-number_ok.false)),
+)
 
 pub returns : goal.returns
 returns c = let a = c.args in

@@ -1,14 +1,10 @@
 -- `boards::safe_cells` meets its contract: the cells before `i` are counted.
-use mathlib.Core.Path.{◌≡◌, refl, ap, ◌∙◌}
+use mathlib.Core.Path.{◌≡◌}
 use mathlib.Core.Bool.{not}
-use Prim.Native.Nat.{ℕ, ◌≤◌, ◌-◌}
-use native.Mathlib.Omega.{arith}
-use borrow.Author.Rules.{rules}
-use lib.Dec.{eqb}
+use Prim.Native.Nat.{◌≤◌, ◌-◌}
 use lib.ListN.{length}
-use Rattle.rules.specs.Words.{bit, count}
-use Rattle.rules.specs.Board.{mine_at, safe_in}
-use Rattle.cells.proofs.Words.{count_le, count_turn}
+use Rattle.rules.specs.Words.{count}
+use Rattle.rules.specs.Board.{mine_at}
 use Rattle.boards.proofs.safe_cells.Given as goal
 
 abbrev pub invariant-loop-i : goal.invariant-loop-i

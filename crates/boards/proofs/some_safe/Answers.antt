@@ -1,7 +1,6 @@
 -- `boards::some_safe` meets its contract: the cells before `i` are mines; the first that is none answers for all. Assumes nothing.
-use mathlib.Core.Path.{ap, ◌≡◌, refl, sym, ◌∙◌}
+use mathlib.Core.Path.{ap, refl, sym, ◌∙◌}
 use mathlib.Core.Bool.{not, true}
-use Prim.Native.Nat.{◌≤◌, ◌-◌}
 use native.Mathlib.Omega.{arith}
 use borrow.Author.Rules.{rules}
 use borrow.Author.Tests.{eq-eqb, ne_eqb}

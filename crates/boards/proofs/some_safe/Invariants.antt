@@ -1,15 +1,10 @@
 -- `boards::some_safe` meets its contract: the cells before `i` are mines; the first that is none answers for all. Assumes nothing.
-use mathlib.Core.Path.{ap, ◌≡◌, refl, sym, ◌∙◌}
-use mathlib.Core.Bool.{not, true}
+use mathlib.Core.Path.{◌≡◌}
+use mathlib.Core.Bool.{true}
 use Prim.Native.Nat.{◌≤◌, ◌-◌}
-use native.Mathlib.Omega.{arith}
-use borrow.Author.Rules.{rules}
-use borrow.Author.Tests.{eq-eqb, ne_eqb}
 use lib.ListN.{length}
-use Rattle.rules.specs.Board.{some_safe, mine_at}
+use Rattle.rules.specs.Board.{mine_at}
 use Rattle.rules.specs.Words.{every}
-use Rattle.cells.proofs.Words.{every_fails, every_turn}
-use Rattle.boards.proofs.Scans.{every_end}
 use Rattle.boards.proofs.some_safe.Given as goal
 
 abbrev pub invariant-loop-i : goal.invariant-loop-i

@@ -1,7 +1,6 @@
 -- `boards::value_fault` meets its contract: the values before `cell` are right. Assumes nothing.
-use mathlib.Core.Path.{sym, ◌≡◌, refl}
+use mathlib.Core.Path.{sym, refl}
 use mathlib.Core.Bool.{true}
-use Prim.Native.Nat.{◌≤◌, ◌-◌}
 use native.Mathlib.Omega.{arith}
 use borrow.Author.Rules.{rules}
 use borrow.Author.Tests.{not-true, not-false}
@@ -29,12 +28,12 @@ returns-then-not-value_ok c = let B = c.args.mines.now in
 
 pub loop-cell-preserved : goal.loop-cell-preserved
 loop-cell-preserved c = let B = c.args.mines.now in (
-      search rules,
-      every_turn (value_ok_at B) c.loop-cell.cell
-          c.loop-cell.invariant.1
-          (value_passed (get_or B c.loop-cell.cell (pos 0)) (record { sfits = c.value_ok-arg-1.given })
-          c.value_ok.ensures (not-false _ (ap not c.if-not-value_ok.false))),
-    )
+  search rules,
+  every_turn (value_ok_at B) c.loop-cell.cell
+      c.loop-cell.invariant.1
+      (value_passed (get_or B c.loop-cell.cell (pos 0)) (record { sfits = c.value_ok-arg-1.given })
+      c.value_ok.ensures (not-false _ (ap not c.if-not-value_ok.false))),
+)
 
 pub returns : goal.returns
 returns c = let B = c.args.mines.now in

@@ -1,7 +1,6 @@
 -- `boards::values_ok` meets its contract: no value is wrong exactly where the search comes to the end. Assumes nothing.
 use mathlib.Core.Path.{ap, ◌∙◌}
 use Prim.Native.Nat.{ℕ}
-use borrow.Author.Rules.{rules}
 use lib.Dec.{eqb}
 use lib.ListN.{length}
 use Rattle.rules.specs.Board.{value_ok_at, values_ok}

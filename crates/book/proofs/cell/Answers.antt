@@ -1,6 +1,5 @@
 -- `book::cell` meets its contract: the product of two bytes, and one byte more, fit.
 use native.Mathlib.Omega.{arith}
-use borrow.Author.Rules.{rules}
 use Rattle.cells.proofs.Words.{bytes_product}
 use Rattle.book.proofs.cell.Goals as goal
 

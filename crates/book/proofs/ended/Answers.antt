@@ -1,6 +1,5 @@
 -- `book::ended` meets its contract: at each return the tests say which case of the definition holds.
 use mathlib.Core.Path.{◌∙◌, sym}
-use borrow.Author.Rules.{rules}
 use Rattle.book.proofs.Reading.{end_unread, end_over, end_right}
 use Rattle.book.proofs.ended.Goals as goal
 

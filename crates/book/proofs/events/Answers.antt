@@ -1,7 +1,6 @@
 -- `book::events` meets its contract: more records than a third of the bytes fit nowhere, else the part is cut.
 use native.Mathlib.Omega.{arith}
 use mathlib.Core.Path.{sym}
-use borrow.Author.Rules.{rules}
 use Rattle.book.proofs.Reading.{part_none}
 use Rattle.book.proofs.events.Goals as goal
 

@@ -1,6 +1,5 @@
 -- `book::mine_fits` meets its contract: at each return the tests say which case holds.
 use borrow.Author.Tests.{lt-ltb, le-ltb}
-use borrow.Author.Rules.{rules}
 use Rattle.book.specs.Parts.{mine_fits}
 use Rattle.book.proofs.mine_fits.Goals as goal
 

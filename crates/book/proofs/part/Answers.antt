@@ -1,7 +1,6 @@
 -- `book::part` meets its contract: either the bytes do not fit, or the part is cut where the definition cuts it.
 use native.Mathlib.Omega.{arith}
 use mathlib.Core.Path.{sym}
-use borrow.Author.Rules.{rules}
 use Rattle.book.proofs.Reading.{part_cut, part_none}
 use Rattle.book.proofs.part.Goals as goal
 

@@ -1,6 +1,5 @@
 -- `book::read_book` meets its contract: the sections, then the end; where the last event ends lies within the bytes.
 use native.Mathlib.Omega.{arith}
-use borrow.Author.Rules.{rules}
 use Rattle.book.proofs.Accepting.{sections_fit, sections_end}
 use Rattle.book.proofs.read_book.Goals as goal
 

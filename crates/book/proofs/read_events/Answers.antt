@@ -1,6 +1,5 @@
 -- `book::read_events` meets its contract: at each return the tests that led there say which fault is the first.
 use borrow.Author.Tests.{le-leb, lt-leb}
-use borrow.Author.Rules.{rules}
 use Rattle.rules.specs.Book.{events_from}
 use Rattle.book.proofs.read_events.Goals as goal
 

@@ -3,10 +3,8 @@
 use borrow.Author.Tests.{not-true, not-false}
 use native.Mathlib.Omega.{arith}
 use mathlib.Core.Path.{◌∙◌, sym, refl}
-use borrow.Author.Rules.{rules}
-use Prim.Native.Nat.{◌-◌}
 use Rattle.cells.proofs.Words.{bytes_product, product_same}
-use Rattle.book.proofs.Reading.{mines_short_count, mines_too_many, Reached, reached_start, reached_short, reached_wrong, reached_more, reached_done}
+use Rattle.book.proofs.Reading.{mines_short_count, mines_too_many, reached_start, reached_short, reached_wrong, reached_more, reached_done}
 use mathlib.Core.Path.{ap}
 use mathlib.Core.Bool.{not}
 use Rattle.book.proofs.read_mines.Goals as goal

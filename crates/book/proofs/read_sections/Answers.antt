@@ -1,7 +1,6 @@
 -- `book::read_sections` meets its contract: the count and its bytes, then the settings.
-use borrow.Author.Tests.{le-leb, lt-leb, not-true, not-false}
+use borrow.Author.Tests.{lt-leb, not-true, not-false}
 use mathlib.Core.Path.{◌∙◌, sym}
-use borrow.Author.Rules.{rules}
 use Rattle.rules.specs.Book.{settings_section, sections_of}
 use Rattle.book.proofs.Reading.{count_wrong, settings_short, settings_there}
 use mathlib.Core.Path.{ap}

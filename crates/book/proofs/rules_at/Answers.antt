@@ -1,6 +1,5 @@
 -- `book::rules_at` meets its contract.
 use borrow.Author.Tests.{eq-eqb, ne_eqb}
-use borrow.Author.Rules.{rules}
 use Rattle.book.proofs.rules_at.Goals as goal
 
 pub returns-then-s-eq5 : goal.returns-then-s-eq5

@@ -4,7 +4,6 @@ use Rattle.rules.specs.Step.{play_lr, play_rc, play_rr, playing, event_of}
 use Rattle.rules.specs.declared.Pointer.TheVariants.{Cell}
 use Rattle.brief.proofs.Ways.{plainly_by, lc_turns, code_lc, code_lr, code_rc, code_rr, last_code}
 use Rattle.keep.proofs.Able.{lawful_room}
-use borrow.Author.Rules.{rules}
 use Rattle.brief.proofs.button.Goals as goal
 
 pub returns-then-code-eq0 : goal.returns-then-code-eq0

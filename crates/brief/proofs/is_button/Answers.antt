@@ -1,6 +1,5 @@
 -- `brief::is_button` meets its contract.
 use mathlib.Core.Path.{refl}
-use borrow.Author.Rules.{rules}
 use Rattle.brief.proofs.is_button.Goals as goal
 
 pub returns-in-Playing : goal.returns-in-Playing

@@ -3,7 +3,6 @@ use Rattle.rules.specs.States.{is_playing}
 use mathlib.Core.Path.{◌∙◌, sym}
 use Rattle.rules.specs.declared.Pointer.TheVariants.{Cell}
 use Rattle.brief.proofs.Heard.{button_code, button_briefly, move_steps}
-use borrow.Author.Rules.{rules}
 use Rattle.brief.proofs.on_cell.Goals as goal
 
 pub button-requires : goal.button-requires

@@ -1,9 +1,8 @@
 -- `brief::play_brief` meets its contract.
-use mathlib.Core.Path.{subst, subst⁻¹}
+use mathlib.Core.Path.{subst}
 use Rattle.rules.specs.declared.Pointer.{Pointer}
 use Rattle.keep.specs.Kept.{Inside}
 use Rattle.brief.specs.Briefly.{Briefly}
-use borrow.Author.Rules.{rules}
 use Rattle.brief.proofs.play_brief.Goals as goal
 
 pub on_cell-requires : goal.on_cell-requires

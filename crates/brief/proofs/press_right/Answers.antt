@@ -2,7 +2,6 @@
 use mathlib.Core.Path.{◌∙◌}
 use native.Mathlib.Omega.{arith}
 use Rattle.brief.proofs.Ways.{on_board, rc_flags, flag_asks, flag_leaves}
-use borrow.Author.Rules.{rules}
 use Rattle.brief.proofs.press_right.Goals as goal
 
 pub bounds-shown-cell : goal.bounds-shown-cell

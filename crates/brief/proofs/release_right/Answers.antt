@@ -1,7 +1,6 @@
 -- `brief::release_right` meets its contract.
 use mathlib.Core.Path.{◌∙◌, sym}
 use Rattle.brief.proofs.Ways.{rr_turns}
-use borrow.Author.Rules.{rules}
 use Rattle.brief.proofs.release_right.Goals as goal
 
 pub returns : goal.returns

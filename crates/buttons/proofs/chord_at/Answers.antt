@@ -1,5 +1,4 @@
 -- `buttons::chord_at` meets its contract.
-use borrow.Author.Rules.{rules}
 use Rattle.cells.proofs.Contracts.{leaves_by, leaves_here}
 use Rattle.buttons.proofs.Plays.{inside_cell}
 use Rattle.buttons.proofs.Cases.{chord_at_cell, chord_at_off}

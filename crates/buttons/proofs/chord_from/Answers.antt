@@ -1,5 +1,4 @@
 -- `buttons::chord_from` meets its contract.
-use borrow.Author.Rules.{rules}
 use Rattle.cells.proofs.Contracts.{leaves_by, leaves_here}
 use Rattle.buttons.proofs.Plays.{able_less}
 use Rattle.buttons.proofs.Cases.{chord_from_both, chord_from_not, chord_from_none}

@@ -3,7 +3,6 @@ use Rattle.cells.proofs.Contracts.{leaves_by}
 use Rattle.buttons.proofs.Plays.{inside_wide, cell_wide}
 use Rattle.buttons.proofs.Cases.{left_at_cell, left_at_off}
 use mathlib.Core.Path.{refl}
-use borrow.Author.Rules.{rules}
 use Rattle.buttons.proofs.left_at.Goals as goal
 
 pub left_click-requires : goal.left_click-requires

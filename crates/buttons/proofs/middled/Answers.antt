@@ -1,6 +1,5 @@
 -- `buttons::middled` meets its contract.
 use mathlib.Core.Path.{refl}
-use borrow.Author.Rules.{rules}
 use Rattle.buttons.proofs.middled.Goals as goal
 
 pub returns : goal.returns

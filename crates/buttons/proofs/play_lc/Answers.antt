@@ -1,7 +1,6 @@
 -- `buttons::play_lc` meets its contract.
 use mathlib.Core.Path.{◌∙◌, sym}
 use mathlib.Core.List.{[]}
-use borrow.Author.Rules.{rules}
 use Rattle.buttons.proofs.Cases.{play_lc_cell, play_lc_off}
 use Rattle.buttons.proofs.play_lc.Goals as goal
 

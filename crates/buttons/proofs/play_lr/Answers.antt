@@ -2,7 +2,6 @@
 use Rattle.cells.proofs.Contracts.{leaves_by}
 use Rattle.buttons.proofs.Plays.{alike_moved, alike_at, chord_needs}
 use Rattle.buttons.proofs.Cases.{play_lr_left, play_lr_chord}
-use borrow.Author.Rules.{rules}
 use Rattle.buttons.proofs.play_lr.Goals as goal
 
 pub left_at-requires : goal.left_at-requires

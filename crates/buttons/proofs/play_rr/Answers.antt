@@ -3,7 +3,6 @@ use mathlib.Core.Path.{◌∙◌, sym}
 use Rattle.cells.proofs.Contracts.{leaves_by, leaves_here}
 use Rattle.buttons.proofs.Plays.{chord_needs}
 use Rattle.buttons.proofs.Cases.{chord_from_none, play_rr_chord}
-use borrow.Author.Rules.{rules}
 use Rattle.buttons.proofs.play_rr.Goals as goal
 
 pub returns-then-m-ne5 : goal.returns-then-m-ne5

@@ -2,7 +2,6 @@
 use mathlib.Core.Path.{ap, ◌∙◌}
 use Rattle.rules.specs.Calls.{checks}
 use Rattle.refusals.proofs.Faults.{check_placeable}
-use borrow.Author.Rules.{rules}
 use Rattle.calls.proofs.check_position.Goals as goal
 
 pub found-requires : goal.found-requires

@@ -1,5 +1,4 @@
 -- `calls::get_bbbv_solved` meets its contract: the sum fits, since the position is lawful.
-use borrow.Author.Rules.{rules}
 use Rattle.rules.specs.Clicks.{desk}
 use Rattle.refusals.proofs.Refusals.{check_solved}
 use Rattle.refusals.proofs.Faults.{check_placeable}

@@ -2,7 +2,6 @@
 use native.Mathlib.Omega.{arith}
 use Rattle.boards.proofs.Tests.{mined_wide}
 use Rattle.calls.proofs.Making.{room_wide, zeros_wide, left_small, left_made}
-use borrow.Author.Rules.{rules}
 use Rattle.calls.proofs.left_on.Goals as goal
 
 pub left_to_solve-left-requires : goal.left_to_solve-left-requires

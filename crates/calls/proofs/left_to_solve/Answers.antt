@@ -2,7 +2,6 @@
 use Rattle.refusals.proofs.Refusals.{lent_mined}
 use Rattle.refusals.proofs.Faults.{lent_placeable}
 use Rattle.calls.proofs.Making.{left_refused, left_answered}
-use borrow.Author.Rules.{rules}
 use Rattle.calls.proofs.left_to_solve.Goals as goal
 
 pub refuse-requires : goal.refuse-requires

@@ -1,5 +1,4 @@
 -- `calls::set_up` meets its contract.
-use borrow.Author.Rules.{rules}
 use Rattle.calls.proofs.Making.{set_refused, set_fresh}
 use Rattle.calls.proofs.set_up.Goals as goal
 

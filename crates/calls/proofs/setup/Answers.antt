@@ -1,5 +1,4 @@
 -- `calls::setup` meets its contract.
-use borrow.Author.Rules.{rules}
 use Rattle.refusals.proofs.Refusals.{setup_fits}
 use Rattle.refusals.proofs.Faults.{setup_placeable}
 use Rattle.calls.proofs.Making.{fresh_placeable, setup_by_lem}

@@ -1,5 +1,4 @@
 -- `calls::step_game_state` meets its contract.
-use borrow.Author.Rules.{rules}
 use Rattle.refusals.proofs.Faults.{check_placeable}
 use Rattle.calls.proofs.Making.{state_refused, state_unknown, state_lost}
 use Rattle.calls.proofs.step_game_state.Goals as goal

@@ -3,7 +3,6 @@ use mathlib.Core.Path.{sym, ◌∙◌}
 use Rattle.refusals.proofs.Refusals.{total_mined}
 use Rattle.refusals.proofs.Faults.{total_placeable}
 use Rattle.calls.proofs.Making.{total_refused, total_answered}
-use borrow.Author.Rules.{rules}
 use Rattle.calls.proofs.total_3bv.Goals as goal
 
 pub found-requires : goal.found-requires

@@ -2,7 +2,6 @@
 use Prim.Native.Nat.{◌-◌}
 use borrow.Author.Tests.{le-leb, lt-leb}
 use native.Mathlib.Omega.{arith}
-use borrow.Author.Rules.{rules}
 use Rattle.rules.specs.Grid.{cell_before}
 use Rattle.cells.proofs.Grid.{cell_lt}
 use Rattle.cells.proofs.cell_before.Goals as goal

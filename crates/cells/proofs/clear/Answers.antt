@@ -1,10 +1,8 @@
 -- `cells::clear` meets its contract: a fill from the front.
 use mathlib.Core.Path.{◌≡◌, refl, ap, ◌∙◌}
-use mathlib.Core.List.{◌++◌}
-use Prim.Native.Nat.{◌≤◌, ◌-◌}
 use native.Mathlib.Omega.{arith}
 use borrow.Author.Fill.{fill_none, fill_more}
-use lib.ListN.{length, replicate, drop, length-set, set}
+use lib.ListN.{length-set, set}
 use Rattle.cells.proofs.clear.Goals as goal
 
 pub loop-i-init : goal.loop-i-init

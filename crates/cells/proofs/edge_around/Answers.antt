@@ -1,10 +1,7 @@
 -- `cells::edge_around` meets its contract.
-use Prim.Native.Nat.{◌≤◌, ◌-◌}
-use mathlib.Core.Path.{◌≡◌, refl}
-use borrow.Author.Rules.{rules}
+use mathlib.Core.Path.{refl}
 use native.Mathlib.Omega.{arith}
 use Rattle.rules.specs.Words.{count}
-use Rattle.rules.specs.Grid.{cell_of, neighbour}
 use Rattle.rules.specs.Opening.{closed_at}
 use Rattle.rules.specs.Clicks.{flag_at}
 use Rattle.cells.proofs.Grid.{around_turn, around_done}

@@ -1,14 +1,10 @@
 -- `cells::edge_around` meets its contract.
 use Prim.Native.Nat.{◌≤◌, ◌-◌}
-use mathlib.Core.Path.{◌≡◌, refl}
-use borrow.Author.Rules.{rules}
-use native.Mathlib.Omega.{arith}
+use mathlib.Core.Path.{◌≡◌}
 use Rattle.rules.specs.Words.{count}
 use Rattle.rules.specs.Grid.{cell_of, neighbour}
 use Rattle.rules.specs.Opening.{closed_at}
 use Rattle.rules.specs.Clicks.{flag_at}
-use Rattle.cells.proofs.Grid.{around_turn, around_done}
-use Rattle.cells.proofs.Words.{bit_le}
 use Rattle.cells.proofs.edge_around.Given as goal
 
 abbrev pub invariant-loop-k : goal.invariant-loop-k

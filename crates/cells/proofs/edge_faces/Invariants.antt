@@ -1,13 +1,9 @@
 -- `cells::edge_faces` meets its contract.
-use Prim.Native.Nat.{ℕ, ◌+◌, ◌≤◌, ◌-◌}
-use mathlib.Core.Path.{◌≡◌, refl, ap}
-use borrow.Author.Rules.{rules}
-use native.Mathlib.Omega.{arith}
-use Rattle.cells.proofs.Words.{is_bit}
+use Prim.Native.Nat.{◌≤◌, ◌-◌}
+use mathlib.Core.Path.{◌≡◌}
 use Rattle.rules.specs.Words.{count}
 use Rattle.rules.specs.Grid.{cell_of, neighbour}
 use Rattle.cells.specs.Ground.{face_is}
-use Rattle.cells.proofs.Grid.{around_turn, around_done}
 use Rattle.cells.proofs.edge_faces.Given as goal
 
 abbrev pub invariant-loop-k : goal.invariant-loop-k

@@ -1,7 +1,6 @@
 -- `cells::face_at` meets its contract.
 use lib.ListN.{get_or}
 use lib.IntN.{pos}
-use borrow.Author.Rules.{rules}
 use Rattle.cells.proofs.Face.{face_mine, face_number}
 use Rattle.cells.proofs.face_at.Goals as goal
 

@@ -1,5 +1,4 @@
 -- `cells::faces_around` meets its contract: an inner cell by its ring, any other place by place.
-use borrow.Author.Rules.{rules}
 use native.Mathlib.Omega.{arith}
 use mathlib.Core.Path.{sym, ◌∙◌}
 use Rattle.cells.specs.Ground.{face_is}

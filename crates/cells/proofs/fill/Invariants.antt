@@ -1,11 +1,8 @@
 -- `cells::fill` meets its contract: a fill from the front.
-use mathlib.Core.Path.{◌≡◌, refl, ap, ◌∙◌}
+use mathlib.Core.Path.{◌≡◌}
 use mathlib.Core.List.{◌++◌}
 use Prim.Native.Nat.{◌≤◌, ◌-◌}
-use native.Mathlib.Omega.{arith}
-use borrow.Author.Fill.{fill_none, fill_more}
-use lib.ListN.{length, replicate, drop, length-set, set}
-use Rattle.cells.proofs.Filling.{fill_whole}
+use lib.ListN.{length, replicate, drop}
 use Rattle.cells.proofs.fill.Given as goal
 
 abbrev pub invariant-loop-i : goal.invariant-loop-i

@@ -1,7 +1,6 @@
 -- `cells::has_face` meets its contract.
 use borrow.Author.Tests.{le-ltb, lt-ltb, eq-eqb, ne_eqb}
 use mathlib.Core.Path.{sym, ◌∙◌}
-use borrow.Author.Rules.{rules}
 use Rattle.cells.proofs.has_face.Goals as goal
 
 pub returns-then-mines-q : goal.returns-then-mines-q

@@ -1,5 +1,4 @@
 -- `cells::neighbour_at` meets its contract.
-use borrow.Author.Rules.{rules}
 use Rattle.cells.proofs.neighbour_at.Goals as goal
 
 pub returns : goal.returns

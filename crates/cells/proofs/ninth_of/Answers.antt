@@ -1,6 +1,5 @@
 -- `cells::ninth_of` meets its contract.
 use borrow.Author.Tests.{le-leb, lt-leb}
-use borrow.Author.Rules.{rules}
 use Rattle.rules.specs.Grid.{ninth}
 use Rattle.cells.proofs.ninth_of.Goals as goal
 

@@ -1,11 +1,10 @@
 -- `cells::ring_faces` meets its contract. The loop: the places before this one are counted.
-use Prim.Native.Nat.{ℕ, ◌≤◌, ◌-◌}
-use mathlib.Core.Path.{◌≡◌, refl, ap, sym, ◌∙◌}
-use borrow.Author.Rules.{rules}
+use Prim.Native.Nat.{ℕ}
+use mathlib.Core.Path.{refl, ap, sym, ◌∙◌}
 use native.Mathlib.Omega.{arith}
 use lib.Dec.{eqb}
 use Rattle.rules.specs.Words.{bit, count}
-use Rattle.cells.specs.Ground.{ring_at, face_is}
+use Rattle.cells.specs.Ground.{face_is}
 use Rattle.cells.proofs.Grid.{ring_le, ring_turn, ring_done}
 use Rattle.cells.proofs.Face.{face_on}
 use Rattle.cells.proofs.ring_faces.Goals as goal

@@ -1,12 +1,9 @@
 -- `cells::ring_shows` meets its contract. The loop: the places before this one are counted.
-use Prim.Native.Nat.{◌≤◌, ◌-◌}
-use mathlib.Core.Path.{◌≡◌, refl}
-use borrow.Author.Rules.{rules}
+use mathlib.Core.Path.{refl}
 use native.Mathlib.Omega.{arith}
 use lib.Dec.{eqb}
 use lib.ListN.{get_or}
 use Rattle.rules.specs.Words.{count}
-use Rattle.cells.specs.Ground.{ring_at}
 use Rattle.cells.proofs.Grid.{ring_le, ring_turn, ring_done}
 use Rattle.cells.proofs.ring_shows.Goals as goal
 

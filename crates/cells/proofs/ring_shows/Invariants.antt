@@ -1,13 +1,10 @@
 -- `cells::ring_shows` meets its contract. The loop: the places before this one are counted.
 use Prim.Native.Nat.{◌≤◌, ◌-◌}
-use mathlib.Core.Path.{◌≡◌, refl}
-use borrow.Author.Rules.{rules}
-use native.Mathlib.Omega.{arith}
+use mathlib.Core.Path.{◌≡◌}
 use lib.Dec.{eqb}
 use lib.ListN.{get_or}
 use Rattle.rules.specs.Words.{count}
 use Rattle.cells.specs.Ground.{ring_at}
-use Rattle.cells.proofs.Grid.{ring_le, ring_turn, ring_done}
 use Rattle.cells.proofs.ring_shows.Given as goal
 
 abbrev pub invariant-loop-k : goal.invariant-loop-k

@@ -1,14 +1,9 @@
 -- `cells::ring_zero` meets its contract. The loop: whether a place before this one is a 0.
-use Prim.Native.Nat.{ℕ, ◌≤◌, ◌-◌}
-use mathlib.Core.Path.{◌≡◌, refl, ap, sym, ◌∙◌}
-use borrow.Author.Rules.{rules}
-use native.Mathlib.Omega.{arith}
-use lib.Dec.{eqb, leb}
+use Prim.Native.Nat.{◌≤◌, ◌-◌}
+use mathlib.Core.Path.{◌≡◌}
+use lib.Dec.{leb}
 use Rattle.rules.specs.Words.{count}
 use Rattle.cells.specs.Ground.{ring_at, face_is}
-use Rattle.cells.proofs.Words.{some_turn}
-use Rattle.cells.proofs.Grid.{ring_le, ring_done}
-use Rattle.cells.proofs.Face.{face_on}
 use Rattle.cells.proofs.ring_zero.Given as goal
 
 abbrev pub invariant-loop-k : goal.invariant-loop-k

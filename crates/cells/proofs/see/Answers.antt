@@ -1,6 +1,5 @@
 -- `cells::see` meets its contract.
 use borrow.Author.Tests.{ne_eqb}
-use borrow.Author.Rules.{rules}
 use Rattle.cells.proofs.Face.{saw_none, saw_flag, saw_closed, unseen}
 use Rattle.cells.proofs.see.Goals as goal
 

@@ -6,7 +6,6 @@ use Prim.Native.Nat.{ℕ, ◌*◌}
 use lib.Dec.{leb}
 use Rattle.rules.specs.Grid.{size_ok}
 use Rattle.cells.proofs.Words.{bytes_product}
-use borrow.Author.Rules.{rules}
 use Rattle.cells.proofs.size_ok.Goals as goal
 
 pub overflow_mul-cells : goal.overflow_mul-cells

@@ -1,5 +1,4 @@
 -- `cells::zero_beside` meets its contract: an inner cell by its ring, any other by its count.
-use borrow.Author.Rules.{rules}
 use native.Mathlib.Omega.{arith}
 use mathlib.Core.Path.{ap, sym, ◌∙◌}
 use lib.Dec.{leb}

@@ -1,9 +1,8 @@
-use mathlib.Core.Path.{sym, ◌∙◌}
+use mathlib.Core.Path.{sym}
 use native.Mathlib.Omega.{arith}
 use lib.Seq.{length-take-le}
 use Rattle.claims.proofs.Order.{check_refused}
 use Rattle.checking.proofs.Verdicts.{check_there, check_reaches, check_asks, check_refuses, check_judges}
-use borrow.Author.Rules.{rules}
 use Rattle.checking.proofs.check_book.Goals as goal
 
 -- src/lib.rt:21:9

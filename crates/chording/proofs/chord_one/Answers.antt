@@ -1,7 +1,6 @@
 -- `chording::chord_one` meets its contract: not Playing, a chord that answers 0, or one that opened.
 use mathlib.Core.Path.{refl, sym, ◌∙◌}
 use borrow.Author.Tests.{not-true, not-false}
-use borrow.Author.Rules.{rules}
 use Rattle.chording.proofs.Chording.{one_over, one_none, one_some}
 use mathlib.Core.Path.{ap}
 use mathlib.Core.Bool.{not}

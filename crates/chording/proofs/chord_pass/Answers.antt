@@ -2,7 +2,7 @@
 use mathlib.Core.Path.{refl, ap, sym, ◌∙◌}
 use mathlib.Core.List.{[]}
 use lib.ListN.{length}
-use Rattle.chording.proofs.Chording.{Passing, to_go, passing_start, passing_asks, passing_turn, passing_less, passing_done}
+use Rattle.chording.proofs.Chording.{passing_start, passing_asks, passing_turn, passing_less, passing_done}
 use Rattle.chording.proofs.chord_pass.Goals as goal
 
 pub loop-go-init : goal.loop-go-init

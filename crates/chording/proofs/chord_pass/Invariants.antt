@@ -1,8 +1,5 @@
 -- `chording::chord_pass` meets its contract. The loop: the rounds from here lead to the outcome, and the closed cells bound them.
-use mathlib.Core.Path.{refl, ap, sym, ◌∙◌}
-use mathlib.Core.List.{[]}
-use lib.ListN.{length}
-use Rattle.chording.proofs.Chording.{Passing, to_go, passing_start, passing_asks, passing_turn, passing_less, passing_done}
+use Rattle.chording.proofs.Chording.{Passing, to_go}
 use Rattle.chording.proofs.chord_pass.Given as goal
 
 abbrev pub invariant-loop-go : goal.invariant-loop-go

@@ -1,10 +1,9 @@
 -- `chording::chord_round` meets its contract. The loop: the cells before this one are chorded, or passed over.
 use mathlib.Core.Path.{refl, ap, sym, ◌∙◌}
-use Prim.Native.Nat.{◌≤◌, ◌-◌}
 use native.Mathlib.Omega.{arith}
 use lib.ListN.{length}
 use Rattle.chording.proofs.Seeking.{first_whole}
-use Rattle.chording.proofs.Chording.{Scanning, scanning_start, scanning_sits, scanning_asks, scanning_turn, scanning_over, scanning_done}
+use Rattle.chording.proofs.Chording.{scanning_start, scanning_sits, scanning_asks, scanning_turn, scanning_over, scanning_done}
 use Rattle.chording.proofs.chord_round.Goals as goal
 
 pub overflow_cast-rows : goal.overflow_cast-rows

@@ -1,5 +1,4 @@
 -- `chording::goes_on` meets its contract.
-use borrow.Author.Rules.{rules}
 use Rattle.chording.proofs.goes_on.Goals as goal
 
 pub returns-then-opened : goal.returns-then-opened

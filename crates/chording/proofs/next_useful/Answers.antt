@@ -1,6 +1,5 @@
 -- `chording::next_useful` meets its contract: the rest of the row, then the rows below.
 use native.Mathlib.Omega.{arith}
-use borrow.Author.Rules.{rules}
 use Rattle.cells.proofs.Grid.{cell_back}
 use Rattle.cells.proofs.Grid.{on_grid}
 use Rattle.chording.proofs.Seeking.{sought_first, row_found, row_passed}

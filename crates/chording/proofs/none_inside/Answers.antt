@@ -1,7 +1,7 @@
 -- `chording::none_inside` meets its contract. The loop: none before this one is useful, or it says no.
 use mathlib.Core.Bool.{not}
-use mathlib.Core.Path.{◌≡◌, refl, ap, ◌∙◌}
-use Prim.Native.Nat.{◌+◌, ◌-◌, ◌≤◌}
+use mathlib.Core.Path.{refl, ap, ◌∙◌}
+use Prim.Native.Nat.{◌+◌}
 use native.Mathlib.Omega.{arith}
 use Rattle.rules.specs.Words.{every}
 use Rattle.chording.specs.Seeking.{useful_inside}

@@ -1,11 +1,9 @@
 -- `chording::none_inside` meets its contract. The loop: none before this one is useful, or it says no.
 use mathlib.Core.Bool.{not}
-use mathlib.Core.Path.{◌≡◌, refl, ap, ◌∙◌}
+use mathlib.Core.Path.{◌≡◌}
 use Prim.Native.Nat.{◌+◌, ◌-◌, ◌≤◌}
-use native.Mathlib.Omega.{arith}
 use Rattle.rules.specs.Words.{every}
 use Rattle.chording.specs.Seeking.{useful_inside}
-use Rattle.cells.proofs.Words.{every_more}
 use Rattle.chording.proofs.none_inside.Given as goal
 
 abbrev pub invariant-loop-k : goal.invariant-loop-k

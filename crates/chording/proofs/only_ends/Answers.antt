@@ -1,6 +1,5 @@
 -- `chording::only_ends` meets its contract: a yes is that of the inner cells, where the row has some on either side.
 use native.Mathlib.Omega.{arith}
-use borrow.Author.Rules.{rules}
 use Rattle.chording.proofs.Seeking.{three_rows, ends_no, ends_are}
 use Rattle.chording.proofs.only_ends.Goals as goal
 

@@ -1,10 +1,7 @@
 -- `chording::useful_below` meets its contract. The loop: no row before this one has a useful cell.
 use Prim.Native.Nat.{◌*◌, ◌-◌, ◌≤◌}
-use native.Mathlib.Omega.{arith}
-use native.Mathlib.Nat.{mul-le-mul_right}
 use Rattle.rules.specs.Clicks.{chord_is_useful}
-use Rattle.cells.proofs.Grid.{cell_lt}
-use Rattle.chording.proofs.Seeking.{Sought, sought_start, sought_on, sought_first, sought_done, row_found, row_passed}
+use Rattle.chording.proofs.Seeking.{Sought}
 use Rattle.chording.proofs.useful_below.Given as goal
 
 abbrev pub invariant-loop-row : goal.invariant-loop-row

@@ -2,7 +2,6 @@
 use mathlib.Core.Path.{sym, ◌∙◌}
 use borrow.Author.Tests.{not-false}
 use native.Mathlib.Omega.{arith}
-use borrow.Author.Rules.{rules}
 use Rattle.chording.proofs.Seeking.{sought_start, sought_found, sought_first, ends_sought}
 use mathlib.Core.Path.{ap}
 use mathlib.Core.Bool.{not}

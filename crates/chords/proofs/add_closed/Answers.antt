@@ -1,6 +1,5 @@
 -- `add_closed`: off the board nothing shows 10; else the test of the cell's value is the definition's.
 use borrow.Author.Tests.{eq-eqb, ne_eqb}
-use borrow.Author.Rules.{rules}
 use Rattle.cells.proofs.Face.{unseen}
 use Rattle.chords.proofs.add_closed.Goals as goal
 

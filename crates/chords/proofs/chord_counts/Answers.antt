@@ -1,6 +1,5 @@
 -- `chord_counts`: each of the two numbers added is at most 8.
 use native.Mathlib.Omega.{arith}
-use borrow.Author.Rules.{rules}
 use Rattle.chords.proofs.Steps.{judged_few, chord_added}
 use Rattle.chords.proofs.chord_counts.Goals as goal
 

@@ -1,6 +1,5 @@
 -- `chord_is_useful`: a cell is that of its row and column.
 use mathlib.Core.Path.{ap, ◌∙◌}
-use borrow.Author.Rules.{rules}
 use Rattle.rules.specs.Clicks.{chord_is_useful}
 use Rattle.cells.proofs.Grid.{cell_back}
 use Rattle.cells.proofs.Grid.{on_grid}

@@ -1,14 +1,9 @@
 -- `closed_around`: after k places the array holds the closed ones among the first k neighbours.
-use mathlib.Core.Path.{◌≡◌}
 use mathlib.Core.List.{[]}
-use Prim.Native.Nat.{◌≤◌, ◌-◌, ◌*◌}
-use native.Mathlib.Omega.{arith}
+use Prim.Native.Nat.{◌≤◌, ◌-◌}
 use Rattle.rules.specs.Grid.{pushed}
 use Rattle.rules.specs.Opening.{closed_at}
-use Rattle.cells.proofs.Grid.{cell_before_le}
 use Rattle.clicks.specs.Parts.{Collected}
-use Rattle.cells.proofs.Grid.{on_grid}
-use Rattle.chords.proofs.Gather.{collected_none, collected_turn}
 use Rattle.chords.proofs.closed_around.Given as goal
 
 abbrev pub invariant-loop-k : goal.invariant-loop-k

@@ -1,7 +1,6 @@
 -- `perform_chord`: a chord that is not useful changes nothing; any other counts, then opens.
 use native.Mathlib.Omega.{arith}
 use borrow.Author.Tests.{not-true, not-false}
-use borrow.Author.Rules.{rules}
 use Rattle.chords.proofs.Gather.{collected_below}
 use Rattle.chords.proofs.Steps.{chord_none, chord_laid, chord_below, chord_done}
 use mathlib.Core.Path.{ap}

@@ -1,6 +1,5 @@
 -- `useful_at`: the tests are the definition's, in its order.
 use native.Mathlib.Omega.{arith}
-use borrow.Author.Rules.{rules}
 use Rattle.cells.proofs.Grid.{cell_lt}
 use Rattle.chords.proofs.Useful.{useful_eight, useful_flags, useful_closed}
 use Rattle.chords.proofs.useful_at.Goals as goal

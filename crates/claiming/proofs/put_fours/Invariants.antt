@@ -1,10 +1,7 @@
-use native.Mathlib.Omega.{arith}
-use borrow.Author.Rules.{rules}
 use Prim.Native.Nat.{◌-◌}
 use lib.ListN.{length, drop}
 use Rattle.rules.specs.Claims.{fours}
-use Rattle.writing.proofs.Putting.{Leads, leads_start, leads_room, leads_turn, leads_done}
-use Rattle.claiming.proofs.Sections.{fours_turn, fours_done}
+use Rattle.writing.proofs.Putting.{Leads}
 use Rattle.claiming.proofs.put_fours.Given as goal
 
 abbrev pub invariant-loop-i : goal.invariant-loop-i

@@ -1,5 +1,4 @@
 use Rattle.claiming.proofs.Sections.{counts_room, state_room, section_made}
-use borrow.Author.Rules.{rules}
 use Rattle.claiming.proofs.section.Goals as goal
 
 -- src/lib.rt:55:9

@@ -1,6 +1,5 @@
 use mathlib.Core.Path.{◌∙◌}
 use Rattle.claims.proofs.Judging.{claim_count, claim_state}
-use borrow.Author.Rules.{rules}
 use Rattle.claims.proofs.claim_at.Goals as goal
 
 -- src/lib.rt:65:9

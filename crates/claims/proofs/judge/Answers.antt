@@ -1,10 +1,6 @@
 use mathlib.Core.Path.{◌∙◌, refl, ap}
-use native.Mathlib.Omega.{arith}
-use Prim.Native.Nat.{ℕ, ◌-◌}
-use mathlib.Core.List.{List}
-use borrow.Author.Rules.{rules}
 use Rattle.rules.specs.Claims.{claims_judged}
-use Rattle.claims.proofs.Judging.{Agreed, agreed_start, agreed_turn, agreed_differs, agreed_done}
+use Rattle.claims.proofs.Judging.{agreed_start, agreed_turn, agreed_differs, agreed_done}
 use Rattle.claims.proofs.judge.Goals as goal
 
 -- src/lib.rt:99:5

@@ -1,7 +1,4 @@
 use Rattle.claims.proofs.Judging.{long_made}
-use mathlib.Core.Path.{ap}
-use native.Mathlib.Omega.{arith}
-use borrow.Author.Rules.{rules}
 use Rattle.claims.proofs.long_at.Goals as goal
 
 -- src/lib.rt:50:1

@@ -2,7 +2,6 @@ use mathlib.Core.Path.{◌∙◌}
 use native.Mathlib.Omega.{arith}
 use Rattle.book.proofs.Accepting.{sections_fit}
 use Rattle.claims.proofs.Judging.{claimed_refused, claimed_read}
-use borrow.Author.Rules.{rules}
 use Rattle.claims.proofs.read_claimed.Goals as goal
 
 -- src/lib.rt:43:9

@@ -1,6 +1,5 @@
 use mathlib.Core.Path.{◌∙◌, sym}
 use Rattle.claims.proofs.Judging.{section_none, section_count, section_short, section_there}
-use borrow.Author.Rules.{rules}
 use Rattle.claims.proofs.read_claims.Goals as goal
 
 -- src/lib.rt:25:9

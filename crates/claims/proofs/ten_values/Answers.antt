@@ -1,5 +1,4 @@
 use mathlib.Core.Path.{◌∙◌}
-use borrow.Author.Rules.{rules}
 use Rattle.claims.proofs.ten_values.Goals as goal
 
 -- src/lib.rt:71:1

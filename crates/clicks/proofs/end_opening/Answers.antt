@@ -1,5 +1,4 @@
 -- `clicks::end_opening` meets its contract: a mine hit, no safe cell left, or neither.
-use borrow.Author.Rules.{rules}
 use Rattle.clicks.proofs.Ends.{ends_hit, ends_won, ends_open}
 use Rattle.clicks.proofs.end_opening.Goals as goal
 

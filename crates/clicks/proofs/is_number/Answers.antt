@@ -1,6 +1,4 @@
 -- `is_number`: no 0, and no mine.
-use mathlib.Core.Path.{sym, ◌∙◌}
-use mathlib.Core.Bool.{false≢true, true≢false}
 use Rattle.clicks.proofs.is_number.Goals as goal
 
 pub returns-then-face-eq0 : goal.returns-then-face-eq0

@@ -3,7 +3,6 @@ use mathlib.Core.Path.{refl, ◌∙◌}
 use native.Mathlib.Omega.{arith}
 use Rattle.cells.proofs.Grid.{cell_lt}
 use Rattle.clicks.proofs.Steps.{added_laid, added_place, added_room, left_idle, left_closed, number_at}
-use borrow.Author.Rules.{rules}
 use Rattle.clicks.proofs.left_click.Goals as goal
 
 pub overflow_mul-cell : goal.overflow_mul-cell

@@ -1,7 +1,6 @@
 -- `left_counts`: one added to lce, and what the cell solves to solved_left.
 use mathlib.Core.Path.{◌∙◌}
 use native.Mathlib.Omega.{arith}
-use borrow.Author.Rules.{rules}
 use Rattle.clicks.proofs.left_counts.Goals as goal
 
 pub overflow_add-n : goal.overflow_add-n

@@ -1,6 +1,5 @@
 -- `left_number`: the number is shown, the counts added, and one cell fewer is still closed.
 use Rattle.clicks.proofs.Steps.{added_room, number_done}
-use borrow.Author.Rules.{rules}
 use Rattle.clicks.proofs.left_number.Goals as goal
 
 pub left_counts-z-requires : goal.left_counts-z-requires

@@ -1,6 +1,5 @@
 -- `left_spreads`: the counts, then the cell by itself is opened.
 use Rattle.clicks.proofs.Steps.{spread_asks, spread_done}
-use borrow.Author.Rules.{rules}
 use Rattle.clicks.proofs.left_spreads.Goals as goal
 
 pub open_cells-requires : goal.open_cells-requires

@@ -1,7 +1,6 @@
 -- `only`: the first of eight entries is the cell.
 use mathlib.Core.Path.{refl}
 use native.Mathlib.Omega.{arith}
-use borrow.Author.Rules.{rules}
 use Rattle.rules.specs.Words.{stack_of}
 use Rattle.clicks.proofs.only.Goals as goal
 

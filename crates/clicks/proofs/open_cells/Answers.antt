@@ -1,5 +1,4 @@
 -- `clicks::open_cells` meets its contract.
-use borrow.Author.Rules.{rules}
 use Rattle.clicks.proofs.Ends.{opened_ends}
 use Rattle.clicks.proofs.open_cells.Goals as goal
 

@@ -1,6 +1,5 @@
 -- `spread_counts`: a mine counts nothing, a 0 is judged on the board as it is before opening.
 use Rattle.clicks.proofs.Steps.{spread_mine, spread_zero}
-use borrow.Author.Rules.{rules}
 use Rattle.clicks.proofs.spread_counts.Goals as goal
 
 pub returns-then-face-eq15 : goal.returns-then-face-eq15

@@ -1,7 +1,6 @@
 -- `console::lm_check_board` meets its contract.
 use mathlib.Core.Path.{ap, ◌∙◌}
 use Rattle.flats.specs.Flat.{flat_value}
-use borrow.Author.Rules.{rules}
 use Rattle.console.proofs.lm_check_board.Goals as goal
 
 pub returns : goal.returns

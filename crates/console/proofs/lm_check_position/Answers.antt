@@ -1,6 +1,5 @@
 -- `console::lm_check_position` meets its contract.
 use Rattle.console.proofs.Making.{position_flat_lem}
-use borrow.Author.Rules.{rules}
 use Rattle.console.proofs.lm_check_position.Goals as goal
 
 pub returns : goal.returns

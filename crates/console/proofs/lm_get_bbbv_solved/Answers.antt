@@ -1,6 +1,5 @@
 -- `console::lm_get_bbbv_solved` meets its contract.
 use Rattle.console.proofs.Making.{solved_flat}
-use borrow.Author.Rules.{rules}
 use Rattle.console.proofs.lm_get_bbbv_solved.Goals as goal
 
 pub returns : goal.returns

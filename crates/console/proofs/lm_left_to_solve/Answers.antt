@@ -1,6 +1,5 @@
 -- `console::lm_left_to_solve` meets its contract.
 use Rattle.console.proofs.Making.{left_flat_lem}
-use borrow.Author.Rules.{rules}
 use Rattle.console.proofs.lm_left_to_solve.Goals as goal
 
 pub returns : goal.returns

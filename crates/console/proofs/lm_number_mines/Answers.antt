@@ -1,5 +1,4 @@
 -- `console::lm_number_mines` meets its contract.
-use borrow.Author.Rules.{rules}
 use Rattle.console.proofs.lm_number_mines.Goals as goal
 
 pub returns : goal.returns

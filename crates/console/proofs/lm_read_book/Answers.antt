@@ -1,6 +1,5 @@
 -- `console::lm_read_book` meets its contract.
 use mathlib.Core.Path.{ap, ◌∙◌}
-use borrow.Author.Rules.{rules}
 use Rattle.flats.specs.Flat.{flat_book}
 use Rattle.console.proofs.lm_read_book.Goals as goal
 

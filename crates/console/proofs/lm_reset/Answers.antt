@@ -1,6 +1,5 @@
 -- `console::lm_reset` meets its contract.
 use Rattle.console.proofs.Making.{reset_flat_lem}
-use borrow.Author.Rules.{rules}
 use Rattle.console.proofs.lm_reset.Goals as goal
 
 pub returns : goal.returns

@@ -1,6 +1,5 @@
 -- `console::lm_resolve` meets its contract.
 use Rattle.console.proofs.Making.{resolve_flat_lem}
-use borrow.Author.Rules.{rules}
 use Rattle.console.proofs.lm_resolve.Goals as goal
 
 pub returns : goal.returns

@@ -1,5 +1,4 @@
 -- `console::lm_setup` meets its contract.
-use borrow.Author.Rules.{rules}
 use Rattle.console.proofs.Making.{setup_flat_lem}
 use Rattle.console.proofs.lm_setup.Goals as goal
 

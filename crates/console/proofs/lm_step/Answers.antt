@@ -1,6 +1,5 @@
 -- `console::lm_step` meets its contract.
 use Rattle.console.proofs.Making.{step_flat_lem}
-use borrow.Author.Rules.{rules}
 use Rattle.console.proofs.lm_step.Goals as goal
 
 pub returns : goal.returns

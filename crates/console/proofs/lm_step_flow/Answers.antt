@@ -1,6 +1,5 @@
 -- `console::lm_step_flow` meets its contract.
 use Rattle.console.proofs.Making.{flow_flat_lem}
-use borrow.Author.Rules.{rules}
 use Rattle.console.proofs.lm_step_flow.Goals as goal
 
 pub returns : goal.returns

@@ -1,6 +1,5 @@
 -- `console::lm_step_game_state` meets its contract.
 use Rattle.console.proofs.Making.{state_flat}
-use borrow.Author.Rules.{rules}
 use Rattle.console.proofs.lm_step_game_state.Goals as goal
 
 pub returns : goal.returns

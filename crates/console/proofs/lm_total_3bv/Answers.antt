@@ -1,6 +1,5 @@
 -- `console::lm_total_3bv` meets its contract.
 use Rattle.console.proofs.Making.{total_flat}
-use borrow.Author.Rules.{rules}
 use Rattle.console.proofs.lm_total_3bv.Goals as goal
 
 pub returns : goal.returns

@@ -1,10 +1,5 @@
 -- `drawing::put_cell_lines` meets its contract: the cells not yet taken, written from here on, make the whole text. The measure is how many are left.
-use Prim.Native.Nat.{◌-◌}
-use native.Mathlib.Omega.{arith}
-use lib.ListN.{length, drop}
-use borrow.Author.Rules.{rules}
-use Rattle.writing.proofs.Putting.{Leads, leads_start, leads_room, leads_turn, leads_done}
-use Rattle.rules.specs.Picture.{number_lines}
+use Rattle.writing.proofs.Putting.{leads_start, leads_room, leads_turn, leads_done}
 use Rattle.drawing.proofs.Plain.{lines_turn, lines_done}
 use Rattle.drawing.proofs.put_cell_lines.Goals as goal
 

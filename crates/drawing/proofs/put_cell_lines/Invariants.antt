@@ -1,11 +1,8 @@
 -- `drawing::put_cell_lines` meets its contract: the cells not yet taken, written from here on, make the whole text. The measure is how many are left.
 use Prim.Native.Nat.{◌-◌}
-use native.Mathlib.Omega.{arith}
 use lib.ListN.{length, drop}
-use borrow.Author.Rules.{rules}
-use Rattle.writing.proofs.Putting.{Leads, leads_start, leads_room, leads_turn, leads_done}
+use Rattle.writing.proofs.Putting.{Leads}
 use Rattle.rules.specs.Picture.{number_lines}
-use Rattle.drawing.proofs.Plain.{lines_turn, lines_done}
 use Rattle.drawing.proofs.put_cell_lines.Given as goal
 
 abbrev pub invariant-loop-i : goal.invariant-loop-i

@@ -1,5 +1,4 @@
 -- `drawing::put_number_line` meets its contract: the number, then the line's end.
-use borrow.Author.Rules.{rules}
 use Rattle.writing.proofs.Putting.{room_first, room_second, put_then}
 use Rattle.drawing.proofs.put_number_line.Goals as goal
 

@@ -1,5 +1,4 @@
 -- `drawing::put_picture` meets its contract: the mark, the three numbers and the cells, one after the other.
-use borrow.Author.Rules.{rules}
 use Rattle.drawing.proofs.Drawing.{room_mark, room_width, room_height, room_maximum, room_board, put_plain}
 use Rattle.drawing.proofs.put_picture.Goals as goal
 

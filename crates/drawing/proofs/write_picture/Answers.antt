@@ -1,6 +1,5 @@
 -- `drawing::write_picture` meets its contract: a refusal leaves the room as it was, and the plain form fits it.
 use native.Mathlib.Omega.{arith}
-use borrow.Author.Rules.{rules}
 use Rattle.drawing.proofs.Drawing.{draw_refused, draw_room, draw_fits, draw_written}
 use Rattle.drawing.proofs.write_picture.Goals as goal
 

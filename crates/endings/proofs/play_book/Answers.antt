@@ -3,7 +3,6 @@ use native.Mathlib.Omega.{arith}
 use lib.Seq.{length-take-le}
 use Rattle.player.proofs.Refusing.{book_cells}
 use Rattle.endings.proofs.Ending.{rooms_fit}
-use borrow.Author.Rules.{rules}
 use Rattle.endings.proofs.play_book.Goals as goal
 
 -- src/lib.rt:41:9

@@ -1,6 +1,5 @@
 use Rattle.games.proofs.Games.{game_lawful_lem, game_blank}
 use Rattle.endings.proofs.Ending.{events_whole, last_played}
-use borrow.Author.Rules.{rules}
 use Rattle.endings.proofs.play_on.Goals as goal
 
 -- src/lib.rt:25:5

@@ -1,5 +1,4 @@
 -- `faults::bad_pre_flag` meets its contract.
-use borrow.Author.Rules.{rules}
 use Rattle.rules.specs.Step.{bad_pre_flag}
 use Rattle.faults.proofs.bad_pre_flag.Goals as goal
 

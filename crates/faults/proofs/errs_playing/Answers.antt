@@ -1,5 +1,4 @@
 -- `faults::errs_playing` meets its contract.
-use borrow.Author.Rules.{rules}
 use Rattle.rules.specs.Step.{errs_playing}
 use Rattle.faults.proofs.errs_playing.Goals as goal
 

@@ -1,5 +1,4 @@
 -- `faults::errs_pre_flaging` meets its contract.
-use borrow.Author.Rules.{rules}
 use Rattle.rules.specs.Step.{errs_pre_flaging}
 use Rattle.faults.proofs.errs_pre_flaging.Goals as goal
 

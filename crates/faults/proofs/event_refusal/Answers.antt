@@ -1,5 +1,4 @@
 -- `faults::event_refusal` meets its contract.
-use borrow.Author.Rules.{rules}
 use Rattle.rules.specs.Step.{event_refusal}
 use Rattle.faults.proofs.event_refusal.Goals as goal
 

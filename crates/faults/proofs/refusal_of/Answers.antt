@@ -1,7 +1,6 @@
 -- `faults::refusal_of` meets its contract.
 use mathlib.Core.Path.{◌∙◌, sym}
 use borrow.Author.Tests.{lt-ltb, le-ltb, leb-true, leb-false}
-use borrow.Author.Rules.{rules}
 use Rattle.faults.proofs.refusal_of.Goals as goal
 
 pub returns-then-is_full : goal.returns-then-is_full

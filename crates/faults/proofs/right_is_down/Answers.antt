@@ -1,6 +1,5 @@
 -- `faults::right_is_down` meets its contract.
 use borrow.Author.Tests.{eq-eqb, ne_eqb}
-use borrow.Author.Rules.{rules}
 use Rattle.faults.proofs.right_is_down.Goals as goal
 
 pub returns-then-m-eq1 : goal.returns-then-m-eq1

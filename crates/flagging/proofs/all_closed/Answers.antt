@@ -1,7 +1,6 @@
 -- `flagging::all_closed` meets its contract: the remainder is tested at negative, zero and positive.
-use mathlib.Core.Path.{◌∙◌, sym, ap, subst⁻¹}
+use mathlib.Core.Path.{◌∙◌, sym, ap}
 use Prim.Native.Nat.{◌<◌}
-use borrow.Author.Rules.{rules}
 use lib.IntN.{ℤ}
 use lib.Signed.{mag}
 use Rattle.rules.specs.Passes.{all_closed_of}

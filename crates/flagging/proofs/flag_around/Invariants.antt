@@ -1,10 +1,8 @@
 -- `flagging::flag_around` meets its contract. The loop: the first k neighbours are flagged.
-use mathlib.Core.Path.{◌≡◌}
 use Prim.Native.Nat.{◌≤◌, ◌-◌}
-use native.Mathlib.Omega.{arith}
 use Rattle.rules.specs.Grid.{cell_of}
 use Rattle.flagging.specs.Scan.{flag_around}
-use Rattle.flagging.proofs.Scan.{Going, going_one, room_start, around_start, around_more}
+use Rattle.flagging.proofs.Scan.{Going}
 use Rattle.flagging.proofs.flag_around.Given as goal
 
 abbrev pub invariant-loop-k : goal.invariant-loop-k

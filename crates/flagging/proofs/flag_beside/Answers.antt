@@ -1,6 +1,5 @@
 -- `flagging::flag_beside` meets its contract: a ripe cell, or another.
 use mathlib.Core.Path.{sym, ◌∙◌}
-use borrow.Author.Rules.{rules}
 use Rattle.flagging.proofs.Scan.{beside_ripe, beside_unripe}
 use Rattle.flagging.proofs.flag_beside.Goals as goal
 

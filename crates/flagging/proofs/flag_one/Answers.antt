@@ -1,7 +1,6 @@
 -- `flagging::flag_one` meets its contract: off the board, a closed cell, or another.
 use native.Mathlib.Omega.{arith}
 use borrow.Author.Tests.{ne_eqb}
-use borrow.Author.Rules.{rules}
 use Rattle.cells.proofs.Face.{unseen}
 use Rattle.flagging.proofs.Scan.{flags_one, flags_none}
 use Rattle.flagging.proofs.flag_one.Goals as goal

@@ -1,5 +1,4 @@
 -- `flagging::flag_pass` meets its contract: one scan that flags each cell as it is found is the whole pass.
-use borrow.Author.Rules.{rules}
 use Rattle.flagging.proofs.AsFound.{pass_is}
 use Rattle.flagging.proofs.flag_pass.Goals as goal
 

@@ -1,9 +1,7 @@
 -- `flagging::flag_row` meets its contract. The loop: the cells of the row before this column are done.
-use mathlib.Core.Path.{◌≡◌}
 use Prim.Native.Nat.{◌≤◌, ◌-◌}
-use native.Mathlib.Omega.{arith}
 use Rattle.flagging.specs.Scan.{flag_row}
-use Rattle.flagging.proofs.Scan.{Going, going_asks, going_room, row_start, row_more}
+use Rattle.flagging.proofs.Scan.{Going}
 use Rattle.flagging.proofs.flag_row.Given as goal
 
 abbrev pub invariant-loop-column : goal.invariant-loop-column

@@ -1,9 +1,7 @@
 -- `flagging::flag_rows` meets its contract. The loop: the rows before this one are done.
 use mathlib.Core.Path.{◌≡◌}
-use Prim.Native.Nat.{◌≤◌, ◌-◌}
 use native.Mathlib.Omega.{arith}
-use Rattle.flagging.specs.Scan.{flag_rows}
-use Rattle.flagging.proofs.Scan.{Going, going_asks, going_room, room_start, rows_start, rows_more}
+use Rattle.flagging.proofs.Scan.{going_asks, going_room, room_start, rows_start, rows_more}
 use Rattle.flagging.proofs.flag_rows.Goals as goal
 
 pub loop-row-init : goal.loop-row-init

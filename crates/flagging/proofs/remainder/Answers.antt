@@ -1,5 +1,4 @@
 -- `flagging::remainder` meets its contract: the difference of two numbers below 9 fits a signed byte.
-use borrow.Author.Rules.{rules}
 use Rattle.flagging.proofs.Signed.{sub_fits, sub_is}
 use Rattle.flagging.proofs.remainder.Goals as goal
 

@@ -1,6 +1,5 @@
 -- `flagging::ripe` meets its contract: its tests in the order of the definition.
 use native.Mathlib.Omega.{arith}
-use borrow.Author.Rules.{rules}
 use Rattle.rules.specs.Grid.{cell_of}
 use Rattle.rules.specs.Clicks.{flag_at}
 use Rattle.cells.proofs.Grid.{cell_lt, around_le}

@@ -1,5 +1,4 @@
 -- `flats::flat` meets its contract.
-use borrow.Author.Rules.{rules}
 use Rattle.flats.proofs.flat.Goals as goal
 
 pub returns : goal.returns

@@ -1,5 +1,4 @@
 -- `flats::flat_book` meets its contract.
-use borrow.Author.Rules.{rules}
 use Rattle.flats.proofs.flat_book.Goals as goal
 
 pub returns : goal.returns

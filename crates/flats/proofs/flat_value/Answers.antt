@@ -1,5 +1,4 @@
 -- `flats::flat_value` meets its contract.
-use borrow.Author.Rules.{rules}
 use Rattle.flats.proofs.flat_value.Goals as goal
 
 pub returns : goal.returns

@@ -1,5 +1,4 @@
 -- `flats::gives` meets its contract.
-use borrow.Author.Rules.{rules}
 use Rattle.flats.proofs.gives.Goals as goal
 
 pub returns : goal.returns

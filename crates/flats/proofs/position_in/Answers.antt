@@ -1,5 +1,4 @@
 -- `flats::position_in` meets its contract.
-use borrow.Author.Rules.{rules}
 use Rattle.flats.proofs.position_in.Goals as goal
 
 pub returns : goal.returns

@@ -1,6 +1,5 @@
 -- `flows::count_moves` meets its contract.
 use mathlib.Core.Path.{refl}
-use borrow.Author.Rules.{rules}
 use Rattle.flows.proofs.count_moves.Goals as goal
 
 pub returns : goal.returns

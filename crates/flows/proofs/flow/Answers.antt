@@ -1,9 +1,8 @@
 -- `flows::flow` meets its contract.
 use mathlib.Core.Path.{ap}
-use Prim.Native.Nat.{◌-◌}
 use native.Mathlib.Omega.{arith}
 use lib.ListN.{length}
-use Rattle.flows.proofs.Flows.{Flowing, flow_on_lem, flow_refused, flow_same, flow_cells, flow_bytes, event_left, flow_start, flow_end, blank_kept}
+use Rattle.flows.proofs.Flows.{flow_on_lem, flow_refused, flow_same, flow_cells, flow_bytes, event_left, flow_start, flow_end, blank_kept}
 use Rattle.flows.proofs.Runs.{flow_run}
 use Rattle.flows.proofs.flow.Goals as goal
 

@@ -1,6 +1,5 @@
 -- `flows::is_move` meets its contract.
 use Rattle.flows.proofs.Runs.{other_event, move_is}
-use borrow.Author.Rules.{rules}
 use Rattle.flows.proofs.is_move.Goals as goal
 
 pub returns-then-events-at-ne4 : goal.returns-then-events-at-ne4

@@ -9,7 +9,6 @@ use Rattle.keep.proofs.Step.{pointer_inside}
 use Rattle.cells.proofs.Contracts.{leaves_by, leaves_here}
 use Rattle.game.proofs.Steps.{step_bad, step_decoded, step_full}
 use Rattle.flows.proofs.Briefs.{brief_played, brief_other, lawful_same, desk_same}
-use borrow.Author.Rules.{rules}
 use Rattle.flows.proofs.next_event.Goals as goal
 
 pub returns-in_default : goal.returns-in_default

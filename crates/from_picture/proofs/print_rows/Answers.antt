@@ -1,7 +1,6 @@
 -- `from_picture::print_rows` meets its contract: the refusal's line, or the rows.
 use mathlib.Core.Path.{sym}
 use lib.Seq.{length-take-le}
-use borrow.Author.Rules.{rules}
 use Rattle.from_picture.proofs.Printing.{refused_room, refused_printed, cells_within, rows_fit, rows_printed_lem}
 use Rattle.from_picture.proofs.print_rows.Goals as goal
 

@@ -1,7 +1,6 @@
 -- `from_picture::write_rows` meets its contract: every room has its length, and what is handed over is what is printed.
 use mathlib.Core.Path.{sym}
 use lib.Seq.{length-take-le}
-use borrow.Author.Rules.{rules}
 use Rattle.from_picture.proofs.Printing.{handed_fits, handed_whole}
 use Rattle.from_picture.proofs.write_rows.Goals as goal
 

@@ -1,5 +1,4 @@
 -- `game::by_game` meets its contract.
-use borrow.Author.Rules.{rules}
 use Rattle.cells.proofs.Contracts.{leaves_by, leaves_here}
 use Rattle.rules.specs.Step.{by_game}
 use Rattle.game.proofs.Steps.{lawful_asked}

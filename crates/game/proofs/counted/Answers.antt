@@ -1,6 +1,5 @@
 -- `game::counted` meets its contract.
 use mathlib.Core.Path.{refl}
-use borrow.Author.Rules.{rules}
 use Rattle.game.proofs.counted.Goals as goal
 
 pub returns : goal.returns

@@ -1,6 +1,5 @@
 -- `game::play_event` meets its contract.
 use Rattle.game.proofs.Steps.{event_counts}
-use borrow.Author.Rules.{rules}
 use Rattle.game.proofs.play_event.Goals as goal
 
 pub returns : goal.returns

@@ -1,7 +1,6 @@
 -- `game::step_at` meets its contract.
 use Rattle.cells.proofs.Contracts.{leaves_by, leaves_here}
 use Rattle.game.proofs.Steps.{resolved_asks, resolved_refused, resolved_played, not_full}
-use borrow.Author.Rules.{rules}
 use Rattle.game.proofs.step_at.Goals as goal
 
 pub returns-then-n-ne0 : goal.returns-then-n-ne0

@@ -1,6 +1,5 @@
 -- `games::print_game` meets its contract: each part finds what the one before it left, and the three texts make the printout.
 use mathlib.Core.Path.{◌∙◌}
-use borrow.Author.Rules.{rules}
 use Rattle.games.proofs.Games.{game_lawful_lem, game_blank, game_events, game_ends, game_printed}
 use Rattle.games.proofs.print_game.Goals as goal
 

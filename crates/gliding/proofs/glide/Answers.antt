@@ -1,11 +1,8 @@
 -- `gliding::glide` meets its contract.
 use mathlib.Core.Path.{ap}
-use Prim.Native.Nat.{◌-◌, ◌<◌, ◌≤◌}
 use native.Mathlib.Omega.{arith}
 use lib.ListN.{length}
-use Rattle.rules.specs.Clicks.{desk}
-use Rattle.keeping.specs.Keeps.{kept_of}
-use Rattle.gliding.proofs.Ways.{Way, way_start, way_next, way_end, way_refused, way_cells, way_bytes, way_blank}
+use Rattle.gliding.proofs.Ways.{way_start, way_next, way_end, way_refused, way_cells, way_bytes, way_blank}
 use Rattle.gliding.proofs.glide.Goals as goal
 
 pub loop-g-init : goal.loop-g-init

@@ -1,7 +1,6 @@
 -- `gliding::glide_row` meets its contract.
 use native.Mathlib.Omega.{arith}
 use Rattle.gliding.proofs.Ways.{after_boards, row_refuses, row_accepts}
-use borrow.Author.Rules.{rules}
 use Rattle.gliding.proofs.glide_row.Goals as goal
 
 pub play_row-o-requires : goal.play_row-o-requires

@@ -1,7 +1,6 @@
 -- `gliding::stop_after` meets its contract.
 use native.Mathlib.Omega.{arith}
 use native.Mathlib.Nat.{mod-lt}
-use borrow.Author.Rules.{rules}
 use Rattle.gliding.proofs.stop_after.Goals as goal
 
 pub overflow_sub-rest : goal.overflow_sub-rest

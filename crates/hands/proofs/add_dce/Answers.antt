@@ -1,6 +1,5 @@
 -- `hands::add_dce` meets its contract.
 use borrow.Author.Tests.{eq-eqb, ne_eqb}
-use borrow.Author.Rules.{rules}
 use Rattle.hands.proofs.add_dce.Goals as goal
 
 pub returns-then-o-eq0 : goal.returns-then-o-eq0

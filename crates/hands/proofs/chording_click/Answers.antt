@@ -1,7 +1,6 @@
 -- `hands::chording_click` meets its contract: the chord, its count, and the passes after it.
 use mathlib.Core.Path.{◌∙◌}
 use native.Mathlib.Omega.{arith}
-use borrow.Author.Rules.{rules}
 use Rattle.hands.proofs.Hand.{chord_asks, chord_dce, chord_then, chord_done}
 use Rattle.hands.proofs.chording_click.Goals as goal
 

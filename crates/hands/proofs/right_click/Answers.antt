@@ -1,6 +1,5 @@
 -- `right_click`: a closed cell is flagged, with the passes after it, or something is taken back.
 use Rattle.hands.proofs.Hand.{right_place, right_asks, right_flags, right_takes}
-use borrow.Author.Rules.{rules}
 use Rattle.hands.proofs.right_click.Goals as goal
 
 pub flag-f-requires : goal.flag-f-requires

@@ -1,6 +1,5 @@
 -- `heads::is_marked` meets its contract: by the length of the bytes.
 use mathlib.Core.Path.{sym}
-use borrow.Author.Rules.{rules}
 use Rattle.heads.proofs.Heads.{marked_short, marked_two, marked_more}
 use Rattle.heads.proofs.is_marked.Goals as goal
 

@@ -1,6 +1,5 @@
 -- `heads::read_head` meets its contract: where the size is passed, the maximum decides.
 use native.Mathlib.Omega.{arith}
-use borrow.Author.Rules.{rules}
 use Rattle.heads.proofs.Heads.{headed_refused, taken_maximum, head_size_lem, head_maximum, head_other, head_right}
 use Rattle.heads.proofs.read_head.Goals as goal
 

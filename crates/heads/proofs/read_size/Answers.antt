@@ -2,7 +2,6 @@
 use mathlib.Core.Path.{◌∙◌, sym}
 use native.Mathlib.Omega.{arith}
 use borrow.Author.Tests.{not-true, not-false}
-use borrow.Author.Rules.{rules}
 use Rattle.heads.proofs.Heads.{headed_refused, taken_after, size_unmarked, size_width, size_height, size_wrong, size_right}
 use mathlib.Core.Path.{ap}
 use mathlib.Core.Bool.{not}

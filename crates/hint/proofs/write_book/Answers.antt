@@ -2,7 +2,6 @@
 use mathlib.Core.Path.{sym}
 use lib.Seq.{length-take-le}
 use Rattle.hint.proofs.Hinted.{text_handed}
-use borrow.Author.Rules.{rules}
 use Rattle.hint.proofs.write_book.Goals as goal
 
 pub play_to_end-n-requires : goal.play_to_end-n-requires

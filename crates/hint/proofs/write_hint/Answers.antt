@@ -3,7 +3,6 @@ use mathlib.Core.Path.{sym}
 use lib.Seq.{length-take-le}
 use Rattle.last_board.proofs.Showable.{board_fits}
 use Rattle.hint.proofs.Hinted.{end_room, line_fits, line_handed}
-use borrow.Author.Rules.{rules}
 use Rattle.hint.proofs.write_hint.Goals as goal
 
 pub slice_bounds-hint_on-end : goal.slice_bounds-hint_on-end

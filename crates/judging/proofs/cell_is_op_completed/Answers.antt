@@ -1,6 +1,5 @@
 -- `judging::cell_is_op_completed`: a walk on a work of zeros, which is cleared again.
 use Rattle.judging.proofs.Tallying.{judged_left_lem, cleared}
-use borrow.Author.Rules.{rules}
 use Rattle.judging.proofs.cell_is_op_completed.Goals as goal
 
 pub returns : goal.returns

@@ -2,7 +2,6 @@
 use mathlib.Core.Path.{sym}
 use borrow.Author.Tests.{eq-eqb, ne_eqb}
 use Rattle.judging.proofs.Marks.{off_ne}
-use borrow.Author.Rules.{rules}
 use Rattle.judging.proofs.flagged.Goals as goal
 
 pub returns-then-shown-cell-eq11 : goal.returns-then-shown-cell-eq11

@@ -1,6 +1,5 @@
 -- `judging::free`: on the board and at 0 in the marks above the stack is free; the tests that led to each return say which.
 use Rattle.judging.proofs.Marks.{free_yes, free_marked, free_off}
-use borrow.Author.Rules.{rules}
 use Rattle.judging.proofs.free.Goals as goal
 
 pub returns-then-work-at-eq0 : goal.returns-then-work-at-eq0

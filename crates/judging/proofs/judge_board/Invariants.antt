@@ -1,13 +1,9 @@
 -- `judging::judge_board`: the invariant is the tally of those not open of the cells below i.
-use borrow.Author.Rules.{rules}
-use mathlib.Core.Path.{◌≡◌}
-use Prim.Native.Nat.{◌≤◌, ◌-◌, ◌*◌}
-use native.Mathlib.Omega.{arith}
+use Prim.Native.Nat.{◌≤◌, ◌-◌}
 use mathlib.Core.List.{[]}
 use Rattle.rules.specs.Grid.{cells_if}
 use Rattle.rules.specs.Judging.{not_open_at}
 use Rattle.judging.specs.Parts.{Tallied}
-use Rattle.judging.proofs.Tallying.{board_none, board_more, board_few}
 use Rattle.judging.proofs.judge_board.Given as goal
 
 abbrev pub invariant-loop-i : goal.invariant-loop-i

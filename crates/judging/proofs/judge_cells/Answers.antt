@@ -1,11 +1,8 @@
 -- `judging::judge_cells`: the invariant is the tally of the first i cells.
-use borrow.Author.Rules.{rules}
 use mathlib.Core.Path.{◌≡◌}
-use Prim.Native.Nat.{◌≤◌, ◌-◌}
+use Prim.Native.Nat.{◌≤◌}
 use native.Mathlib.Omega.{arith}
-use Rattle.rules.specs.Words.{stack_of}
 use Rattle.cells.proofs.Words.{stack_below}
-use Rattle.judging.specs.Parts.{Tallied}
 use Rattle.judging.proofs.Tallying.{chord_none, chord_more_lem, chord_few}
 use Rattle.judging.proofs.judge_cells.Goals as goal
 

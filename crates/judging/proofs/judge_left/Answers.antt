@@ -1,5 +1,4 @@
 -- `judging::judge_left`: an open cell changes nothing; any other is judged by a walk that is shown nothing.
-use borrow.Author.Rules.{rules}
 use borrow.Author.Tests.{not-true, not-false}
 use Rattle.judging.proofs.Tallying.{judged_open, judged_due}
 use mathlib.Core.Path.{ap}

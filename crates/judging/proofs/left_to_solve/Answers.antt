@@ -1,7 +1,6 @@
 -- `judging::left_to_solve`: both counts added up, the work cleared in between.
 use native.Mathlib.Omega.{arith}
 use Rattle.judging.proofs.Tallying.{cleared, board_few, left_is}
-use borrow.Author.Rules.{rules}
 use Rattle.judging.proofs.left_to_solve.Goals as goal
 
 pub overflow_add-result : goal.overflow_add-result

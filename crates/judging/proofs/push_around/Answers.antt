@@ -1,15 +1,9 @@
 -- `judging::push_around`: after k neighbours the stack is the definition's after k, and nothing above it has changed.
-use borrow.Author.Rules.{rules}
 use mathlib.Core.Path.{◌≡◌, refl, ◌∙◌}
-use Prim.Native.Nat.{◌≤◌, ◌-◌, ◌*◌}
+use Prim.Native.Nat.{◌≤◌, ◌*◌}
 use native.Mathlib.Omega.{arith}
-use lib.ListN.{length}
-use Rattle.rules.specs.Words.{stack_of}
 use Rattle.rules.specs.Grid.{pushed}
-use Rattle.rules.specs.Judging.{free_at}
 use Rattle.cells.proofs.Grid.{cell_before_le, on_grid}
-use Rattle.cells.specs.Stack.{Grown}
-use Rattle.judging.specs.Parts.{marks_of}
 use Rattle.cells.proofs.Stack.{grown_start}
 use Rattle.judging.proofs.Marks.{grown_more, neighbour_of}
 use Rattle.judging.proofs.push_around.Goals as goal

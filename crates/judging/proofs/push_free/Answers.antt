@@ -2,7 +2,6 @@
 use mathlib.Core.Path.{sym, ◌∙◌}
 use native.Mathlib.Omega.{arith}
 use Rattle.cells.proofs.Stack.{grown_push, grown_none}
-use borrow.Author.Rules.{rules}
 use Rattle.judging.proofs.push_free.Goals as goal
 
 pub returns-then-free : goal.returns-then-free

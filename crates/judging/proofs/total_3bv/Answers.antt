@@ -1,5 +1,4 @@
 -- `judging::total_3bv`: where nothing is shown, all is left to solve.
-use borrow.Author.Rules.{rules}
 use Rattle.judging.proofs.Solving.{total_left}
 use Rattle.judging.proofs.total_3bv.Goals as goal
 

@@ -1,11 +1,8 @@
 -- `judging::walk`: the invariant is Walking; the measure, the stack's height and eight for each cell without a mark, falls each turn.
 use lib.ListN.{length-set}
 use mathlib.Core.Path.{◌∙◌}
-use Prim.Native.Nat.{◌+◌, ◌*◌}
 use native.Mathlib.Omega.{arith}
-use Rattle.judging.specs.Parts.{marks_of}
-use Rattle.judging.proofs.Turns.{free_count}
-use Rattle.judging.proofs.Walking.{Walking, walking_start, walking_asks, walking_turn, walking_done, laid_fits, went_laid}
+use Rattle.judging.proofs.Walking.{walking_start, walking_asks, walking_turn, walking_done, laid_fits, went_laid}
 use Rattle.judging.proofs.walk.Goals as goal
 
 pub overflow_cast-work : goal.overflow_cast-work

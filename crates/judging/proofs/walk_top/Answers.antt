@@ -9,7 +9,6 @@ use Rattle.rules.specs.Judging.{free_at}
 use Rattle.judging.specs.Parts.{marks_of}
 use Rattle.judging.proofs.Marks.{free_cell}
 use Rattle.judging.proofs.Walking.{stepped_marked, stepped_number, stepped_stop, stepped_mark}
-use borrow.Author.Rules.{rules}
 use mathlib.Core.Path.{ap}
 use mathlib.Core.Bool.{not}
 use Rattle.judging.proofs.walk_top.Goals as goal

@@ -1,6 +1,5 @@
 -- `keeping::counts_in` meets its contract.
 use Rattle.keeping.proofs.Reading.{counts_read}
-use borrow.Author.Rules.{rules}
 use Rattle.keeping.proofs.counts_in.Goals as goal
 
 pub returns : goal.returns

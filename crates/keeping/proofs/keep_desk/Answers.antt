@@ -1,7 +1,6 @@
 -- `keeping::keep_desk` meets its contract: at each return the test that led there says why nothing is kept, or that the next is.
 use native.Mathlib.Omega.{arith}
 use Rattle.keeping.proofs.Keeps.{keep_full, keep_between, keep_other, kept_less, slot_ends, slot_room, keep_next}
-use borrow.Author.Rules.{rules}
 use Rattle.keeping.proofs.keep_desk.Goals as goal
 
 pub returns-then-room-size : goal.returns-then-room-size

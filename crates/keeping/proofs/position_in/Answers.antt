@@ -1,6 +1,5 @@
 -- `keeping::position_in` meets its contract.
 use Rattle.keeping.proofs.Reading.{position_read}
-use borrow.Author.Rules.{rules}
 use Rattle.keeping.proofs.position_in.Goals as goal
 
 pub returns : goal.returns

@@ -2,7 +2,6 @@
 use mathlib.Core.Path.{sym}
 use Rattle.writing.proofs.Putting.{room_first, room_second, room_as, put_then, put_as}
 use Rattle.keeping.proofs.Slots.{desk_parts}
-use borrow.Author.Rules.{rules}
 use Rattle.keeping.proofs.put_desk.Goals as goal
 
 pub put_bytes-first-requires : goal.put_bytes-first-requires

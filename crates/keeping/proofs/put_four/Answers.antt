@@ -1,6 +1,5 @@
 -- `keeping::put_four` meets its contract: the four bytes are written as they are made.
 use Rattle.writing.proofs.Putting.{put_as}
-use borrow.Author.Rules.{rules}
 use Rattle.keeping.proofs.put_four.Goals as goal
 
 pub returns : goal.returns

@@ -1,11 +1,5 @@
 -- `keeping::put_fours` meets its contract. The invariant: the numbers not yet taken, written from here on, make the whole text. The measure is how many are left.
-use borrow.Author.Rules.{rules}
-use mathlib.Core.Path.{refl}
-use native.Mathlib.Omega.{arith}
-use Prim.Native.Nat.{◌-◌}
-use lib.ListN.{length, drop}
-use Rattle.rules.specs.Slides.{fours}
-use Rattle.writing.proofs.Putting.{Leads, leads_start, leads_room, leads_turn, leads_done}
+use Rattle.writing.proofs.Putting.{leads_start, leads_room, leads_turn, leads_done}
 use Rattle.keeping.proofs.Slots.{fours_turn, fours_done}
 use Rattle.keeping.proofs.put_fours.Goals as goal
 

@@ -1,6 +1,5 @@
 -- `keeping::secrets_in` meets its contract.
 use Rattle.keeping.proofs.Reading.{secrets_read}
-use borrow.Author.Rules.{rules}
 use Rattle.keeping.proofs.secrets_in.Goals as goal
 
 pub returns : goal.returns

@@ -1,6 +1,5 @@
 -- `keeping::states` meets its contract: each byte as its function gives it.
 use Rattle.keeping.proofs.Slots.{states_are}
-use borrow.Author.Rules.{rules}
 use Rattle.keeping.proofs.states.Goals as goal
 
 pub returns : goal.returns

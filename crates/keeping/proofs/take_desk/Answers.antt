@@ -1,6 +1,5 @@
 -- `keeping::take_desk` meets its contract.
 use Rattle.keeping.proofs.Slots.{desk_taken}
-use borrow.Author.Rules.{rules}
 use Rattle.keeping.proofs.take_desk.Goals as goal
 
 pub returns : goal.returns

@@ -1,6 +1,5 @@
 -- `last_board::play_to_end` meets its contract: the rooms are enough for every book.
 use Rattle.last_board.proofs.Played.{ends}
-use borrow.Author.Rules.{rules}
 use Rattle.last_board.proofs.play_to_end.Goals as goal
 
 pub returns : goal.returns

@@ -1,6 +1,5 @@
 -- `lawful::bit_lawful` meets its contract.
 use borrow.Author.Tests.{not-true, not-false}
-use borrow.Author.Rules.{rules}
 use Rattle.lawful.proofs.Tests.{bit_clear, bit_spare, bit_mine}
 use mathlib.Core.Path.{ap}
 use mathlib.Core.Bool.{not}

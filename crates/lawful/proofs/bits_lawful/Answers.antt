@@ -1,13 +1,8 @@
 -- `lawful::bits_lawful` meets its contract: every bit of the bytes passed is clear or that of a mine.
-use mathlib.Core.Path.{◌≡◌, sym, ◌∙◌}
+use mathlib.Core.Path.{sym, ◌∙◌}
 use mathlib.Core.Bool.{true}
-use Prim.Native.Nat.{◌≤◌, ◌-◌, ◌*◌}
 use native.Mathlib.Omega.{arith}
 use borrow.Author.Tests.{not-true, not-false}
-use borrow.Author.Rules.{rules}
-use lib.ListN.{length}
-use Rattle.rules.specs.Words.{every}
-use Rattle.lawful.specs.Parts.{bit_lawful}
 use Rattle.lawful.proofs.Scan.{bits_none, bits_turn, bits_stop, bits_done}
 use mathlib.Core.Path.{ap}
 use mathlib.Core.Bool.{not}

@@ -1,8 +1,7 @@
 -- `lawful::byte_lawful` meets its contract: a byte that is 0 has no bit; else the bits passed are each clear or that of a mine.
-use mathlib.Core.Path.{◌≡◌, refl, ap, ◌∙◌}
-use Prim.Native.Nat.{◌+◌, ◌-◌, ◌*◌, ◌≤◌}
+use mathlib.Core.Path.{refl, ap, ◌∙◌}
+use Prim.Native.Nat.{◌+◌, ◌*◌}
 use native.Mathlib.Omega.{arith}
-use borrow.Author.Rules.{rules}
 use Rattle.rules.specs.Words.{every}
 use Rattle.cells.proofs.Words.{every_more}
 use Rattle.lawful.specs.Parts.{bit_lawful}

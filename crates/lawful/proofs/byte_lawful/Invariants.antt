@@ -1,12 +1,8 @@
 -- `lawful::byte_lawful` meets its contract: a byte that is 0 has no bit; else the bits passed are each clear or that of a mine.
-use mathlib.Core.Path.{◌≡◌, refl, ap, ◌∙◌}
+use mathlib.Core.Path.{◌≡◌}
 use Prim.Native.Nat.{◌+◌, ◌-◌, ◌*◌, ◌≤◌}
-use native.Mathlib.Omega.{arith}
-use borrow.Author.Rules.{rules}
 use Rattle.rules.specs.Words.{every}
-use Rattle.cells.proofs.Words.{every_more}
 use Rattle.lawful.specs.Parts.{bit_lawful}
-use Rattle.lawful.proofs.Scan.{byte_clear}
 use Rattle.lawful.proofs.byte_lawful.Given as goal
 
 abbrev pub invariant-loop-k : goal.invariant-loop-k

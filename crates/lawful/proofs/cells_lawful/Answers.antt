@@ -1,12 +1,7 @@
 -- `lawful::cells_lawful` meets its contract: every cell passed shows what it may.
-use mathlib.Core.Path.{◌≡◌}
 use mathlib.Core.Bool.{true}
-use Prim.Native.Nat.{◌≤◌, ◌-◌}
 use native.Mathlib.Omega.{arith}
 use borrow.Author.Tests.{not-true, not-false}
-use borrow.Author.Rules.{rules}
-use lib.ListN.{length}
-use Rattle.lawful.specs.Parts.{cells_lawful}
 use Rattle.lawful.proofs.Scan.{cells_none, cells_turn, cells_stop, cells_done}
 use mathlib.Core.Path.{ap}
 use mathlib.Core.Bool.{not}

@@ -2,14 +2,8 @@
 use mathlib.Core.Path.{◌≡◌}
 use mathlib.Core.Bool.{true}
 use Prim.Native.Nat.{◌≤◌, ◌-◌}
-use native.Mathlib.Omega.{arith}
-use borrow.Author.Tests.{not-true, not-false}
-use borrow.Author.Rules.{rules}
 use lib.ListN.{length}
 use Rattle.lawful.specs.Parts.{cells_lawful}
-use Rattle.lawful.proofs.Scan.{cells_none, cells_turn, cells_stop, cells_done}
-use mathlib.Core.Path.{ap}
-use mathlib.Core.Bool.{not}
 use Rattle.lawful.proofs.cells_lawful.Given as goal
 
 abbrev pub invariant-loop-i : goal.invariant-loop-i

@@ -1,6 +1,5 @@
 -- `lawful::counts_lawful` meets its contract: the counts of two kinds together are the definition's.
 use native.Mathlib.Omega.{arith}
-use borrow.Author.Rules.{rules}
 use Rattle.lawful.proofs.Tests.{counts_is}
 use Rattle.lawful.proofs.counts_lawful.Goals as goal
 

@@ -1,5 +1,4 @@
 -- `lawful::game_lawful` meets its contract.
-use borrow.Author.Rules.{rules}
 use Rattle.rules.specs.Lawful.{game_lawful}
 use Rattle.keep.proofs.Unopened.{won_read}
 use Rattle.lawful.proofs.Tests.{open_are, elevens_are}

@@ -1,6 +1,5 @@
 -- `lawful::lawful_refusal` meets its contract: the first part that fails gives its number.
 use native.Mathlib.Omega.{arith}
-use borrow.Author.Rules.{rules}
 use Rattle.lawful.proofs.Tests.{opens_fit, unopened_is, counted_right, refused_shown, refused_bits, refused_counts, refused_states, refused_none}
 use mathlib.Core.Path.{ap}
 use mathlib.Core.Bool.{not}

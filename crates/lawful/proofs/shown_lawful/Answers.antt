@@ -1,5 +1,4 @@
 -- `lawful::shown_lawful` meets its contract.
-use borrow.Author.Rules.{rules}
 use Rattle.lawful.proofs.Tests.{shown_is}
 use Rattle.lawful.proofs.shown_lawful.Goals as goal
 

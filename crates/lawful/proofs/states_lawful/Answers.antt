@@ -1,5 +1,4 @@
 -- `lawful::states_lawful` meets its contract.
-use borrow.Author.Rules.{rules}
 use Rattle.rules.specs.Lawful.{states_lawful}
 use Rattle.lawful.proofs.states_lawful.Goals as goal
 

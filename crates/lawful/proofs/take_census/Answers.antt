@@ -1,9 +1,5 @@
 -- `lawful::take_census` meets its contract: the counts are those of the cells passed.
-use Prim.Native.Nat.{◌≤◌, ◌-◌}
 use native.Mathlib.Omega.{arith}
-use borrow.Author.Rules.{rules}
-use lib.ListN.{length}
-use Rattle.lawful.specs.Parts.{Counted}
 use Rattle.lawful.proofs.Scan.{counted_none, counted_turn, counted_few, counted_all}
 use Rattle.lawful.proofs.take_census.Goals as goal
 

@@ -1,7 +1,6 @@
 -- `lones::cell_is_bbbv`: the cell is that of its row and column.
 use Rattle.cells.proofs.Grid.{on_grid}
 use Rattle.lones.proofs.Lones.{lone_cell}
-use borrow.Author.Rules.{rules}
 use Rattle.lones.proofs.cell_is_bbbv.Goals as goal
 
 pub lone_at-requires : goal.lone_at-requires

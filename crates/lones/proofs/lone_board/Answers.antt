@@ -1,9 +1,7 @@
 -- `lones::lone_board`: the invariant is the lone numbers of the rows before the row.
 use mathlib.Core.Path.{◌≡◌}
-use Prim.Native.Nat.{◌+◌, ◌≤◌, ◌-◌, ◌*◌}
+use Prim.Native.Nat.{◌+◌}
 use native.Mathlib.Omega.{arith}
-use Rattle.rules.specs.Judging.{not_open_at}
-use Rattle.lones.specs.Counts.{LoneRow}
 use Rattle.lones.proofs.Lones.{board_none, board_more, board_few}
 use Rattle.lones.proofs.lone_board.Goals as goal
 

@@ -1,6 +1,5 @@
 -- `lones::lone_left`: an open cell is none; of another `lone_at` tells.
 use native.Mathlib.Omega.{arith}
-use borrow.Author.Rules.{rules}
 use borrow.Author.Tests.{not-true, not-false}
 use Rattle.cells.proofs.Grid.{cell_lt}
 use Rattle.lones.proofs.Lones.{left_open, left_lone}

@@ -1,7 +1,6 @@
 -- `lones::lone_number`: a number is lone exactly if no 0 is beside it.
 use Rattle.cells.proofs.Grid.{cell_lt}
 use Rattle.lones.proofs.Lones.{lone_number}
-use borrow.Author.Rules.{rules}
 use Rattle.lones.proofs.lone_number.Goals as goal
 
 pub returns : goal.returns

@@ -1,11 +1,7 @@
 -- `lones::lone_row`: the invariant is the lone numbers of the row before the column.
-use borrow.Author.Rules.{rules}
-use mathlib.Core.Path.{◌≡◌}
 use Prim.Native.Nat.{◌≤◌, ◌-◌, ◌*◌}
-use native.Mathlib.Omega.{arith}
 use Rattle.rules.specs.Judging.{not_open_at}
 use Rattle.lones.specs.Counts.{LoneRow}
-use Rattle.lones.proofs.Lones.{row_none, row_more}
 use Rattle.lones.proofs.lone_row.Given as goal
 
 abbrev pub invariant-loop-column : goal.invariant-loop-column

@@ -1,6 +1,5 @@
 -- `lones::not_open`: past the shown board nothing is open; on it the cell's own value tells.
 use Rattle.lones.proofs.Lones.{not_open_off, not_open_on}
-use borrow.Author.Rules.{rules}
 use native.Mathlib.Omega.{arith}
 use Rattle.lones.proofs.not_open.Goals as goal
 

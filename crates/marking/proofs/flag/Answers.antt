@@ -1,6 +1,5 @@
 -- `flag`: the counts that the setters leave, with what the mark adds.
 use native.Mathlib.Omega.{arith}
-use borrow.Author.Rules.{rules}
 use Rattle.marking.proofs.flag.Goals as goal
 
 pub overflow_add-n : goal.overflow_add-n

@@ -1,5 +1,4 @@
 -- `mark_mine`: a safe cell, a bit that was set, a bit that was clear.
-use borrow.Author.Rules.{rules}
 use Rattle.marking.proofs.Marks.{marked_safe, marked_had, marked_new}
 use Rattle.marking.proofs.mark_mine.Goals as goal
 

@@ -2,7 +2,6 @@
 use mathlib.Core.Path.{sym}
 use native.Mathlib.Omega.{arith}
 use Rattle.marking.proofs.Marks.{back_flag, back_question, back_open}
-use borrow.Author.Rules.{rules}
 use Rattle.marking.proofs.take_back.Goals as goal
 
 pub overflow_sub-n : goal.overflow_sub-n

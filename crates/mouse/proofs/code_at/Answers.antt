@@ -1,5 +1,4 @@
 -- `mouse::code_at` meets its contract.
-use borrow.Author.Rules.{rules}
 use Rattle.mouse.proofs.code_at.Goals as goal
 
 pub returns : goal.returns

@@ -1,6 +1,5 @@
 -- `mouse::decode` meets its contract.
 use mathlib.Core.Path.{◌∙◌, sym}
-use borrow.Author.Rules.{rules}
 use Rattle.rules.specs.Step.{pointer_of}
 use Rattle.mouse.proofs.decode.Goals as goal
 

@@ -1,5 +1,4 @@
 -- `mouse::moved` meets its contract.
-use mathlib.Core.Path.{subst⁻¹}
 use Prim.Native.Nat.{ℕ, ◌<◌}
 use borrow.Author.Rules.{rules}
 use Rattle.rules.specs.Mouse.{moved}

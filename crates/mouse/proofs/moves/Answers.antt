@@ -1,6 +1,5 @@
 -- `mouse::moves` meets its contract.
 use mathlib.Core.Path.{refl}
-use borrow.Author.Rules.{rules}
 use Rattle.mouse.proofs.moves.Goals as goal
 
 pub returns : goal.returns

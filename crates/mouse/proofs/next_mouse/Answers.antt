@@ -1,6 +1,5 @@
 -- `mouse::next_mouse` meets its contract.
 use mathlib.Core.Path.{refl}
-use borrow.Author.Rules.{rules}
 use Rattle.rules.specs.Mouse.{next_mouse, mouse_table}
 use Rattle.mouse.proofs.next_mouse.Goals as goal
 

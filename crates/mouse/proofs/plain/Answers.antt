@@ -1,5 +1,4 @@
 -- `mouse::plain` meets its contract.
-use borrow.Author.Rules.{rules}
 use Rattle.rules.specs.Step.{plain_of}
 use Rattle.mouse.proofs.plain.Goals as goal
 

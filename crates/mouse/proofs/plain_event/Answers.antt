@@ -1,5 +1,4 @@
 -- `mouse::plain_event` meets its contract.
-use borrow.Author.Rules.{rules}
 use Rattle.mouse.proofs.plain_event.Goals as goal
 
 pub returns : goal.returns

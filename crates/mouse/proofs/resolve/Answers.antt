@@ -1,6 +1,5 @@
 -- `mouse::resolve` meets its contract.
 use borrow.Author.Tests.{eq-eqb, ne_eqb}
-use borrow.Author.Rules.{rules}
 use Rattle.rules.specs.Mouse.{resolved}
 use Rattle.mouse.proofs.resolve.Goals as goal
 

@@ -1,6 +1,5 @@
 -- `mouse::resolve_at` meets its contract.
 use mathlib.Core.Path.{refl}
-use borrow.Author.Rules.{rules}
 use Rattle.mouse.proofs.resolve_at.Goals as goal
 
 pub returns : goal.returns

@@ -1,5 +1,4 @@
 -- `mouse::right_is_held` meets its contract.
-use borrow.Author.Rules.{rules}
 use Rattle.mouse.proofs.right_is_held.Goals as goal
 
 pub returns : goal.returns

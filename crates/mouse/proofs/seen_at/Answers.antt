@@ -1,5 +1,4 @@
 -- `mouse::seen_at` meets its contract.
-use borrow.Author.Rules.{rules}
 use Rattle.rules.specs.Step.{seen_at}
 use Rattle.mouse.proofs.seen_at.Goals as goal
 

@@ -1,7 +1,6 @@
 -- `noflag_board::forbids` meets its contract: the pointer is taken apart once, then the events are looked at.
 use mathlib.Core.Path.{◌∙◌, sym}
 use borrow.Author.Tests.{leb-true, leb-false}
-use borrow.Author.Rules.{rules}
 use Rattle.noflag_board.proofs.Moding.{forbids_off, forbids_full, forbids_barred}
 use Rattle.noflag_board.proofs.forbids.Goals as goal
 

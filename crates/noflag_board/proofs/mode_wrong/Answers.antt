@@ -1,5 +1,4 @@
 -- `noflag_board::mode_wrong` meets its contract.
-use borrow.Author.Rules.{rules}
 use Rattle.noflag_board.proofs.mode_wrong.Goals as goal
 
 pub returns : goal.returns

@@ -1,6 +1,5 @@
 -- `noflag_board::other_mode` meets its contract: each test that fails before the mode is reached says no.
 use borrow.Author.Tests.{not-true, not-false}
-use borrow.Author.Rules.{rules}
 use Rattle.book.proofs.Reading.{settings_there}
 use Rattle.noflag_board.proofs.Booking.{other_empty, other_count, other_short, other_there}
 use mathlib.Core.Path.{ap}

@@ -1,5 +1,4 @@
 -- `noflag_board::read_book` meets its contract: 25 at 3, or the board's reading.
-use borrow.Author.Rules.{rules}
 use Rattle.noflag_board.proofs.Booking.{book_refused, book_read}
 use Rattle.noflag_board.proofs.read_book.Goals as goal
 

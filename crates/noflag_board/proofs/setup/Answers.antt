@@ -1,6 +1,5 @@
 -- `noflag_board::setup` meets its contract: in mode 0 it is the board's, in any other it is refused.
 use mathlib.Core.Path.{◌∙◌, sym}
-use borrow.Author.Rules.{rules}
 use Rattle.refusals.proofs.Faults.{setup_placeable}
 use Rattle.calls.proofs.Making.{fresh_placeable}
 use Rattle.noflag.proofs.Calls.{setup_same}

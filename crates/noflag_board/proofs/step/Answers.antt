@@ -1,5 +1,4 @@
 -- `noflag_board::step` meets its contract: what is not played, and what the board's step plays on the code resolved.
-use borrow.Author.Rules.{rules}
 use Rattle.noflag_board.proofs.Stepping.{step_unplayed, step_played}
 use Rattle.noflag_board.proofs.step.Goals as goal
 

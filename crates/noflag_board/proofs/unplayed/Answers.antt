@@ -1,5 +1,4 @@
 -- `noflag_board::unplayed` meets its contract.
-use borrow.Author.Rules.{rules}
 use Rattle.rules.specs.Clicks.{desk}
 use Rattle.refusals.proofs.Faults.{lent_placeable}
 use Rattle.noflag_board.proofs.Moding.{moded_placeable}

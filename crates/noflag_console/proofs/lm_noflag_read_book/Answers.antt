@@ -1,6 +1,5 @@
 -- `noflag_console::lm_noflag_read_book` meets its contract.
 use mathlib.Core.Path.{ap, ◌∙◌}
-use borrow.Author.Rules.{rules}
 use Rattle.flats.specs.Flat.{flat_book}
 use Rattle.noflag_console.proofs.lm_noflag_read_book.Goals as goal
 

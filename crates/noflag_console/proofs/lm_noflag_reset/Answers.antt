@@ -1,6 +1,5 @@
 -- `noflag_console::lm_noflag_reset` meets its contract.
 use Rattle.console.proofs.Making.{reset_flat_lem}
-use borrow.Author.Rules.{rules}
 use Rattle.noflag_console.proofs.lm_noflag_reset.Goals as goal
 
 pub returns : goal.returns

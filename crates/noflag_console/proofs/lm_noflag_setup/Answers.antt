@@ -1,5 +1,4 @@
 -- `noflag_console::lm_noflag_setup` meets its contract.
-use borrow.Author.Rules.{rules}
 use Rattle.noflag_console.proofs.Making.{setup_flat_lem}
 use Rattle.noflag_console.proofs.lm_noflag_setup.Goals as goal
 

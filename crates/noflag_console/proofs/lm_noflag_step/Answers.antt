@@ -1,6 +1,5 @@
 -- `noflag_console::lm_noflag_step` meets its contract.
 use Rattle.noflag_console.proofs.Making.{step_flat_lem}
-use borrow.Author.Rules.{rules}
 use Rattle.noflag_console.proofs.lm_noflag_step.Goals as goal
 
 pub returns : goal.returns

@@ -1,7 +1,6 @@
 -- `noflag_player::print_game` meets its contract: each part finds what the one before it left, and the four texts make the printout.
 use mathlib.Core.Path.{◌∙◌, sym}
 use lib.Seq.{length-take-le}
-use borrow.Author.Rules.{rules}
 use Rattle.games.proofs.Games.{game_lawful_lem, game_blank, game_events}
 use Rattle.noflag_player.proofs.Games.{book_same, cut_fit, barred_fits, ends, printed}
 use Rattle.noflag_player.proofs.print_game.Goals as goal

@@ -2,7 +2,6 @@
 use mathlib.Core.Path.{sym}
 use native.Mathlib.Omega.{arith}
 use lib.Seq.{length-take-le}
-use borrow.Author.Rules.{rules}
 use Rattle.player.proofs.Refusing.{book_cells, book_fit}
 use Rattle.noflag_player.proofs.Games.{book_same}
 use Rattle.noflag_player.proofs.Lending.{place_small, refused_put}

@@ -1,6 +1,5 @@
 -- `noflag_player::put_barred` meets its contract.
 use mathlib.Core.Path.{refl}
-use borrow.Author.Rules.{rules}
 use Rattle.noflag_player.proofs.Barring.{barred_refused, barred_none, barred_put}
 use Rattle.noflag_player.proofs.put_barred.Goals as goal
 

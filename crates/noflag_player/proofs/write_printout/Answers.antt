@@ -2,7 +2,6 @@
 use mathlib.Core.Path.{sym}
 use lib.Seq.{length-take-le}
 use borrow.Author.Tests.{not-true, not-false}
-use borrow.Author.Rules.{rules}
 use Rattle.noflag_player.proofs.Lending.{fits_means, rooms_enough, written_none, written_all, handed_fits, handed_whole}
 use mathlib.Core.Path.{ap}
 use mathlib.Core.Bool.{not}

@@ -1,10 +1,8 @@
 -- `numbering::clear` meets its contract: the entries before `i` are 0. Assumes nothing.
-use mathlib.Core.Path.{◌≡◌, refl}
-use Prim.Native.Nat.{ℕ, ◌<◌, ◌≤◌, ◌-◌}
+use mathlib.Core.Path.{refl}
 use native.Mathlib.Omega.{arith}
 use borrow.Author.Rules.{rules}
-use lib.ListN.{length, get_or, length-set}
-use lib.IntN.{pos}
+use lib.ListN.{length-set}
 use Rattle.numbering.proofs.Numbering.{clear_more, clear_done}
 use Rattle.numbering.proofs.clear.Goals as goal
 

@@ -1,11 +1,8 @@
 -- `numbering::clear` meets its contract: the entries before `i` are 0. Assumes nothing.
-use mathlib.Core.Path.{◌≡◌, refl}
+use mathlib.Core.Path.{◌≡◌}
 use Prim.Native.Nat.{ℕ, ◌<◌, ◌≤◌, ◌-◌}
-use native.Mathlib.Omega.{arith}
-use borrow.Author.Rules.{rules}
-use lib.ListN.{length, get_or, length-set}
+use lib.ListN.{length, get_or}
 use lib.IntN.{pos}
-use Rattle.numbering.proofs.Numbering.{clear_more, clear_done}
 use Rattle.numbering.proofs.clear.Given as goal
 
 abbrev pub invariant-loop-i : goal.invariant-loop-i

@@ -1,6 +1,5 @@
 -- `numbering::mine_cell` meets its contract: row times columns plus column, of the two bytes of the mine. Assumes nothing.
 use native.Mathlib.Omega.{arith}
-use borrow.Author.Rules.{rules}
 use Rattle.numbering.proofs.Numbering.{cell_is}
 use Rattle.numbering.proofs.mine_cell.Goals as goal
 

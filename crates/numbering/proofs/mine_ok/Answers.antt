@@ -1,5 +1,4 @@
 -- `numbering::mine_ok` meets its contract: each return is one case of the test. Assumes nothing.
-use borrow.Author.Rules.{rules}
 use Rattle.numbering.proofs.Numbering.{mine_below, mine_beside, mine_first, mine_after}
 use Rattle.numbering.proofs.mine_ok.Goals as goal
 

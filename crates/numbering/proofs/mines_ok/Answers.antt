@@ -1,7 +1,6 @@
 -- `numbering::mines_ok` meets its contract: the mines before `n` are right; the first that is not answers for all. Assumes nothing.
-use mathlib.Core.Path.{◌≡◌, refl, sym}
+use mathlib.Core.Path.{refl, sym}
 use mathlib.Core.Bool.{true}
-use Prim.Native.Nat.{◌≤◌, ◌-◌}
 use borrow.Author.Rules.{rules}
 use Rattle.rules.specs.Words.{every}
 use Rattle.rules.specs.Board.{mines_in, mine_ok}
@@ -24,10 +23,10 @@ returns-then-not-mine_ok c = let a = c.args in
 
 pub loop-n-preserved : goal.loop-n-preserved
 loop-n-preserved c = let a = c.args in (
-      search rules,
-      every_turn (mine_ok a.rows a.columns a.list.now) c.loop-n.n
-          c.loop-n.invariant.1 (says_yes c.mine_ok.ensures (ap not c.if-not-mine_ok.false)),
-    )
+  search rules,
+  every_turn (mine_ok a.rows a.columns a.list.now) c.loop-n.n
+      c.loop-n.invariant.1 (says_yes c.mine_ok.ensures (ap not c.if-not-mine_ok.false)),
+)
 
 pub returns : goal.returns
 returns c = let a = c.args in

@@ -1,15 +1,9 @@
 -- `numbering::mines_ok` meets its contract: the mines before `n` are right; the first that is not answers for all. Assumes nothing.
-use mathlib.Core.Path.{◌≡◌, refl, sym}
+use mathlib.Core.Path.{◌≡◌}
 use mathlib.Core.Bool.{true}
 use Prim.Native.Nat.{◌≤◌, ◌-◌}
-use borrow.Author.Rules.{rules}
 use Rattle.rules.specs.Words.{every}
 use Rattle.rules.specs.Board.{mines_in, mine_ok}
-use Rattle.cells.proofs.Words.{every_turn, every_fails}
-use Rattle.boards.proofs.Scans.{every_end}
-use Rattle.boards.proofs.Tests.{says_no, says_yes}
-use mathlib.Core.Path.{ap}
-use mathlib.Core.Bool.{not}
 use Rattle.numbering.proofs.mines_ok.Given as goal
 
 abbrev pub invariant-loop-n : goal.invariant-loop-n

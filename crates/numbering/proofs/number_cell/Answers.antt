@@ -1,6 +1,5 @@
 -- `numbering::number_cell` meets its contract: a mine is left, and any other cell gets the count of faces 15 around it. Assumes nothing.
 use mathlib.Core.Path.{sym, ◌∙◌}
-use borrow.Author.Rules.{rules}
 use Rattle.cells.proofs.Grid.{on_grid}
 use Rattle.numbering.proofs.Numbering.{number_left, number_stored}
 use Rattle.numbering.proofs.number_cell.Goals as goal

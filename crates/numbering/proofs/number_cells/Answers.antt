@@ -1,9 +1,7 @@
 -- `numbering::number_cells` meets its contract: the first `i` cells are numbered, and the board stays one of its size and values. Assumes nothing.
-use mathlib.Core.Path.{◌≡◌, refl}
-use Prim.Native.Nat.{◌≤◌, ◌-◌, ◌*◌}
+use mathlib.Core.Path.{refl}
 use native.Mathlib.Omega.{arith}
 use borrow.Author.Rules.{rules}
-use Rattle.cells.specs.Ground.{Mined}
 use Rattle.numbering.specs.Numbering.{number_first}
 use Rattle.numbering.proofs.Numbering.{number_first_more, number_first_end, number_one_mined}
 use Rattle.numbering.proofs.number_cells.Goals as goal
@@ -20,12 +18,12 @@ loop-i-smaller c = omega (arith, c.loop-i.invariant.1.long)
 
 pub loop-i-preserved : goal.loop-i-preserved
 loop-i-preserved c = (
-      omega (arith, c.loop-i.invariant.1.long),
-      rw c.number_cell.ensures
-          (number_one_mined _ _ c.loop-i.mines c.loop-i.i c.loop-i.invariant.1 (omega (arith, c.loop-i.invariant.1.long))),
-      number_first_more _ _ _ _ _ _
-          c.loop-i.invariant.2 c.number_cell.ensures,
-    )
+  omega (arith, c.loop-i.invariant.1.long),
+  rw c.number_cell.ensures
+      (number_one_mined _ _ c.loop-i.mines c.loop-i.i c.loop-i.invariant.1 (omega (arith, c.loop-i.invariant.1.long))),
+  number_first_more _ _ _ _ _ _
+      c.loop-i.invariant.2 c.number_cell.ensures,
+)
 
 pub shape_of-mines : goal.shape_of-mines
 shape_of-mines c = omega (arith, c.loop-i.invariant.1.long, c.requires.long)

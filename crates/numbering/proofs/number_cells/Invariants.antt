@@ -1,11 +1,8 @@
 -- `numbering::number_cells` meets its contract: the first `i` cells are numbered, and the board stays one of its size and values. Assumes nothing.
-use mathlib.Core.Path.{◌≡◌, refl}
+use mathlib.Core.Path.{◌≡◌}
 use Prim.Native.Nat.{◌≤◌, ◌-◌, ◌*◌}
-use native.Mathlib.Omega.{arith}
-use borrow.Author.Rules.{rules}
 use Rattle.cells.specs.Ground.{Mined}
 use Rattle.numbering.specs.Numbering.{number_first}
-use Rattle.numbering.proofs.Numbering.{number_first_more, number_first_end, number_one_mined}
 use Rattle.numbering.proofs.number_cells.Given as goal
 
 abbrev pub invariant-loop-i : goal.invariant-loop-i

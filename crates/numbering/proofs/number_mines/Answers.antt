@@ -1,6 +1,5 @@
 -- `numbering::number_mines` meets its contract: a refusal writes nothing; else the three passes write the numbered board. Assumes nothing.
 use mathlib.Core.Path.{◌∙◌, sym}
-use borrow.Author.Rules.{rules}
 use Rattle.numbering.proofs.Numbering.{numbering_refused, place_ready, number_ready, numbering_done}
 use Rattle.numbering.proofs.number_mines.Goals as goal
 

@@ -1,6 +1,5 @@
 -- `numbering::numbering_refusal` meets its contract: each return is one case of the chain. Assumes nothing.
 use mathlib.Core.Path.{◌∙◌, sym}
-use borrow.Author.Rules.{rules}
 use Rattle.boards.proofs.Tests.{says_no, says_yes}
 use Rattle.numbering.proofs.Numbering.{numbering_size, numbering_long, numbering_odd, numbering_wrong, numbering_full, numbering_passed}
 use mathlib.Core.Path.{ap}

@@ -1,10 +1,8 @@
 -- `numbering::place_mines` meets its contract: the first `n` mines are placed. Assumes nothing.
-use mathlib.Core.Path.{◌≡◌, refl}
-use Prim.Native.Nat.{◌≤◌, ◌-◌}
+use mathlib.Core.Path.{refl}
 use native.Mathlib.Omega.{arith}
 use borrow.Author.Rules.{rules}
-use lib.ListN.{length, length-set}
-use Rattle.rules.specs.Board.{mines_in}
+use lib.ListN.{length-set}
 use Rattle.numbering.specs.Numbering.{placed}
 use Rattle.numbering.proofs.Numbering.{placed_more, placed_end}
 use Rattle.numbering.proofs.place_mines.Goals as goal

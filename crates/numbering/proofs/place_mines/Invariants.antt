@@ -1,12 +1,9 @@
 -- `numbering::place_mines` meets its contract: the first `n` mines are placed. Assumes nothing.
-use mathlib.Core.Path.{◌≡◌, refl}
+use mathlib.Core.Path.{◌≡◌}
 use Prim.Native.Nat.{◌≤◌, ◌-◌}
-use native.Mathlib.Omega.{arith}
-use borrow.Author.Rules.{rules}
-use lib.ListN.{length, length-set}
+use lib.ListN.{length}
 use Rattle.rules.specs.Board.{mines_in}
 use Rattle.numbering.specs.Numbering.{placed}
-use Rattle.numbering.proofs.Numbering.{placed_more, placed_end}
 use Rattle.numbering.proofs.place_mines.Given as goal
 
 abbrev pub invariant-loop-n : goal.invariant-loop-n

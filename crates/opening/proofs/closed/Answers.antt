@@ -2,7 +2,6 @@
 use borrow.Author.Tests.{eq-eqb, ne_eqb}
 use Rattle.cells.proofs.Face.{unseen}
 use mathlib.Core.Path.{sym}
-use borrow.Author.Rules.{rules}
 use Rattle.opening.proofs.closed.Goals as goal
 
 pub returns-then-shown-q-eq10 : goal.returns-then-shown-q-eq10

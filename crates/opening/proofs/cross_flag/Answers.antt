@@ -3,7 +3,6 @@ use Rattle.rules.specs.Board.{face_at}
 use borrow.Author.Tests.{eq-eqb, ne_eqb}
 use mathlib.Core.Path.{◌∙◌, sym}
 use Rattle.opening.proofs.Refresh.{cross_safe, cross_mine, cross_none}
-use borrow.Author.Rules.{rules}
 use Rattle.opening.proofs.cross_flag.Goals as goal
 
 pub returns-then-face_at-eq15 : goal.returns-then-face_at-eq15

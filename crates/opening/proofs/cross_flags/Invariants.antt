@@ -1,10 +1,8 @@
 -- `opening::cross_flags` meets its contract. The loop's invariant: the first i flags are crossed, and the cells from i on are as they were. Assumes nothing.
-use mathlib.Core.Path.{◌≡◌, refl, ◌∙◌}
+use mathlib.Core.Path.{◌≡◌}
 use Prim.Native.Nat.{◌≤◌, ◌-◌}
-use native.Mathlib.Omega.{arith}
 use lib.ListN.{length}
 use Rattle.rules.specs.Opening.{crossed}
-use Rattle.opening.proofs.Refresh.{crossed_none, crossed_more}
 use Rattle.opening.proofs.cross_flags.Given as goal
 
 abbrev pub invariant-loop-i : goal.invariant-loop-i

@@ -1,7 +1,6 @@
 -- `opening::refresh_board` meets its contract, from those of its parts. Assumes nothing.
 use Rattle.opening.proofs.Refresh.{roomy_start, work_asks, refreshed_hit, refreshed_safe}
 use native.Mathlib.Omega.{arith}
-use borrow.Author.Rules.{rules}
 use Rattle.opening.proofs.Ticking.{ticked_room, ticked_then, ticked_crossed}
 use Rattle.opening.proofs.refresh_board.Goals as goal
 

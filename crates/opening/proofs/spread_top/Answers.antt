@@ -3,7 +3,6 @@ use mathlib.Core.Path.{◌∙◌}
 use lib.ListN.{length-set}
 use Rattle.cells.proofs.Grid.{on_grid}
 use Rattle.opening.proofs.Touching.{seated_popped, around_back}
-use borrow.Author.Rules.{rules}
 use Rattle.opening.proofs.spread_top.Goals as goal
 
 pub touch_around-requires : goal.touch_around-requires

@@ -3,7 +3,6 @@ use mathlib.Core.Path.{sym, ◌∙◌}
 use native.Mathlib.Omega.{arith}
 use Rattle.opening.proofs.Touching.{roomy_closed, moved_zero, moved_mine, moved_number, moved_shut}
 use Rattle.opening.proofs.Ticking.{ticked_none, ticked_number, ticked_mine, safe_number, open_most}
-use borrow.Author.Rules.{rules}
 use Rattle.opening.proofs.touch.Goals as goal
 
 pub face_at-v-requires : goal.face_at-v-requires

@@ -1,15 +1,8 @@
 -- `opening::touch_around` meets its contract. The loop's invariant: the first k neighbours are touched, and the lengths are as they were. Assumes nothing.
 use mathlib.Core.Path.{◌≡◌, refl, ◌∙◌}
-use Prim.Native.Nat.{◌≤◌, ◌-◌}
 use native.Mathlib.Omega.{arith}
-use lib.ListN.{length}
-use Rattle.rules.specs.Words.{stack_of}
-use Rattle.rules.specs.Grid.{cell_of}
 use Rattle.cells.proofs.Grid.{neighbour_at}
-use Rattle.opening.specs.Quick.{front, touched_around}
-use Rattle.opening.specs.Parts.{Moved}
 use Rattle.opening.proofs.Touching.{around_none, around_more, around_height, roomy_again}
-use Rattle.cells.specs.Promises.{Ticked}
 use Rattle.opening.proofs.Ticking.{ticked_none, ticked_room, ticked_then}
 use Rattle.opening.proofs.touch_around.Goals as goal
 

@@ -1,16 +1,7 @@
 -- `opening::touch_given` meets its contract. The loop's invariant: the first i given cells are touched, and the lengths are as they were. Assumes nothing.
 use mathlib.Core.Path.{◌≡◌, refl, ◌∙◌}
-use mathlib.Core.Bool.{false}
-use mathlib.Core.List.{[]}
-use Prim.Native.Nat.{◌≤◌, ◌-◌}
 use native.Mathlib.Omega.{arith}
-use lib.ListN.{length}
-use borrow.Author.Rules.{rules}
-use Rattle.rules.specs.Words.{stack_of}
-use Rattle.opening.specs.Quick.{front, touched_all}
-use Rattle.opening.specs.Parts.{Moved}
 use Rattle.opening.proofs.Touching.{all_none, all_more, all_height, roomy_again}
-use Rattle.cells.specs.Promises.{Ticked}
 use Rattle.opening.proofs.Ticking.{ticked_none, ticked_room, ticked_then}
 use Rattle.opening.proofs.touch_given.Goals as goal
 

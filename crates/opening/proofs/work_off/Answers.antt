@@ -1,11 +1,7 @@
 -- `opening::work_off` meets its contract. The invariant is `Going`; the measure, the stack's height and the closed cells together, falls at every turn. Assumes nothing.
 use mathlib.Core.Path.{sym, ◌∙◌}
-use Prim.Native.Nat.{◌+◌}
 use native.Mathlib.Omega.{arith}
-use Rattle.rules.specs.Opening.{count_shown}
-use Rattle.rules.specs.Lawful.{shows}
-use Rattle.opening.proofs.Going.{Going, going_start, going_asks, going_turn, going_done}
-use Rattle.cells.specs.Promises.{Ticked}
+use Rattle.opening.proofs.Going.{going_start, going_asks, going_turn, going_done}
 use Rattle.opening.proofs.Ticking.{ticked_none, ticked_room, ticked_then}
 use Rattle.opening.proofs.work_off.Goals as goal
 

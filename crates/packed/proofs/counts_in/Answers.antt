@@ -1,5 +1,4 @@
 -- `packed::counts_in` meets its contract: each count is the number at its place.
-use borrow.Author.Rules.{rules}
 use Rattle.packed.proofs.Reading.{counts_read}
 use Rattle.packed.proofs.counts_in.Goals as goal
 

@@ -1,6 +1,5 @@
 -- `packed::numbers` meets its contract: each number as its function gives it.
 use Rattle.packed.proofs.Reading.{numbers_are}
-use borrow.Author.Rules.{rules}
 use Rattle.packed.proofs.numbers.Goals as goal
 
 pub returns : goal.returns

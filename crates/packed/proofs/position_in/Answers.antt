@@ -1,5 +1,4 @@
 -- `packed::position_in` meets its contract: each part is the one at its place.
-use borrow.Author.Rules.{rules}
 use Rattle.packed.proofs.Reading.{position_read}
 use Rattle.packed.proofs.position_in.Goals as goal
 

@@ -2,7 +2,6 @@
 -- the other.
 use Rattle.writing.proofs.Putting.{room_first, room_second, put_then}
 use Rattle.packed.proofs.Telling.{outcome_room_lem, outcome_told}
-use borrow.Author.Rules.{rules}
 use Rattle.packed.proofs.put_outcome.Goals as goal
 
 pub put_decimal-first-requires : goal.put_decimal-first-requires

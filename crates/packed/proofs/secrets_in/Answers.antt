@@ -1,5 +1,4 @@
 -- `packed::secrets_in` meets its contract: each count is the number at its place.
-use borrow.Author.Rules.{rules}
 use Rattle.packed.proofs.Reading.{secrets_read}
 use Rattle.packed.proofs.secrets_in.Goals as goal
 

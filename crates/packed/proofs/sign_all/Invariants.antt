@@ -1,9 +1,7 @@
 -- `packed::sign_all` meets its contract. The invariant: the cells passed are signed. The measure is how many are left.
 use Prim.Native.Nat.{◌-◌}
-use native.Mathlib.Omega.{arith}
 use lib.ListN.{length}
-use borrow.Author.Rules.{rules}
-use Rattle.packed.proofs.Signs.{Signing, signing_start, signing_turn, signing_done}
+use Rattle.packed.proofs.Signs.{Signing}
 use Rattle.packed.proofs.sign_all.Given as goal
 
 abbrev pub invariant-loop-i : goal.invariant-loop-i

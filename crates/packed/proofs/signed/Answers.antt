@@ -1,6 +1,5 @@
 -- `packed::signed` meets its contract: from 128 on it goes over sixteen bits.
 use native.Mathlib.Omega.{arith}
-use borrow.Author.Rules.{rules}
 use Rattle.packed.proofs.Signs.{low_is, less_fits, back_fits, high_is}
 use Rattle.packed.proofs.signed.Goals as goal
 

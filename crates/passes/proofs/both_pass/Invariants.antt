@@ -1,8 +1,6 @@
 -- `passes::both_pass` meets its contract. The loop: the turns from here lead to the outcome, and the closed cells bound them.
-use mathlib.Core.Path.{ap, sym, ◌∙◌}
-use lib.ListN.{length}
 use Rattle.rules.specs.Clicks.{desk}
-use Rattle.passes.proofs.Turns.{Turning, to_go, turning_start, turning_asks, turning_turn, turning_less, turning_done}
+use Rattle.passes.proofs.Turns.{Turning, to_go}
 use Rattle.passes.proofs.both_pass.Given as goal
 
 abbrev pub invariant-loop-go : goal.invariant-loop-go

@@ -1,7 +1,6 @@
 -- `player::print_book` meets its contract: less than enough leaves all as it was, enough is what printing asks.
 use mathlib.Core.Path.{sym, ◌∙◌}
 use borrow.Author.Tests.{not-true, not-false}
-use borrow.Author.Rules.{rules}
 use Rattle.player.proofs.Lending.{enough_means, printed_none, printed_some}
 use mathlib.Core.Path.{ap}
 use mathlib.Core.Bool.{not}

@@ -2,7 +2,6 @@
 use mathlib.Core.Path.{sym}
 use native.Mathlib.Omega.{arith}
 use lib.Seq.{length-take-le}
-use borrow.Author.Rules.{rules}
 use Rattle.player.proofs.Refusing.{place_within, book_cells, book_fit}
 use Rattle.player.proofs.Lending.{printed_refused, printed_played}
 use Rattle.player.proofs.print_lent.Goals as goal

@@ -1,7 +1,6 @@
 -- `player::write_printout` meets its contract: its own rooms are enough for every book, so what is not printed is for want of text room; and what it hands over is the printout.
 use mathlib.Core.Path.{sym}
 use lib.Seq.{length-take-le}
-use borrow.Author.Rules.{rules}
 use Rattle.player.proofs.Lending.{written_as, handed_fits, handed_whole}
 use Rattle.player.proofs.write_printout.Goals as goal
 

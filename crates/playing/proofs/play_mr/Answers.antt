@@ -1,5 +1,4 @@
 -- `playing::play_mr` meets its contract.
-use borrow.Author.Rules.{rules}
 use Rattle.cells.proofs.Contracts.{leaves_by}
 use Rattle.playing.proofs.Cases.{play_mr_chord}
 use Rattle.playing.proofs.play_mr.Goals as goal

@@ -2,7 +2,6 @@
 use Rattle.cells.proofs.Contracts.{leaves_by, leaves_here}
 use Rattle.buttons.proofs.Plays.{alike_moved, alike_at}
 use Rattle.playing.proofs.Cases.{play_rc_flag, play_rc_none, play_rc_moved}
-use borrow.Author.Rules.{rules}
 use Rattle.playing.proofs.play_rc.Goals as goal
 
 pub returns-then-m-ne0 : goal.returns-then-m-ne0

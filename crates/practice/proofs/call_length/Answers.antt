@@ -1,6 +1,5 @@
 -- `practice::call_length` meets its contract: each `return` is one case of the definition.
 use Rattle.practice.proofs.Calls.{call_short, call_report, call_strange, call_cut, call_question}
-use borrow.Author.Rules.{rules}
 use Rattle.practice.proofs.call_length.Goals as goal
 
 pub returns-then-s-at-lt5 : goal.returns-then-s-at-lt5

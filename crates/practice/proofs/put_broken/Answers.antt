@@ -1,6 +1,5 @@
 -- `practice::put_broken` meets its contract.
 use Rattle.practice.proofs.Lines.{broken_room, broken_put}
-use borrow.Author.Rules.{rules}
 use Rattle.practice.proofs.put_broken.Goals as goal
 
 pub put_word_line-requires : goal.put_word_line-requires

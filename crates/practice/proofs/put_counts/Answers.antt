@@ -1,7 +1,6 @@
 -- `practice::put_counts` meets its contract: the numbers, then the end of the line.
 use Rattle.writing.proofs.Putting.{room_first, room_second}
 use Rattle.practice.proofs.Lines.{counts_room, counts_put}
-use borrow.Author.Rules.{rules}
 use Rattle.practice.proofs.put_counts.Goals as goal
 
 pub put_spaced-next-requires : goal.put_spaced-next-requires

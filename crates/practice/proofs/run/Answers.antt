@@ -6,7 +6,6 @@ use borrow.Author.Tests.{lt-leb}
 use Rattle.practice.specs.Practice.{short}
 use Rattle.practice.proofs.Calls.{reached_start}
 use Rattle.practice.proofs.Lines.{handed_fits, handed_whole}
-use borrow.Author.Rules.{rules}
 use Rattle.practice.proofs.run.Goals as goal
 
 pub slice_bounds-hand-end : goal.slice_bounds-hand-end

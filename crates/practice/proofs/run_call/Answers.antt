@@ -4,7 +4,6 @@ use lib.Seq.{length-take-le}
 use Rattle.practice.specs.Practice.{call}
 use Rattle.practice.proofs.Calls.{call_some}
 use Rattle.practice.proofs.Lines.{handed_fits, handed_whole}
-use borrow.Author.Rules.{rules}
 use Rattle.practice.proofs.run_call.Goals as goal
 
 pub slice_bounds-hand-end : goal.slice_bounds-hand-end

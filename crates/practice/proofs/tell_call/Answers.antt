@@ -1,7 +1,6 @@
 -- `practice::tell_call` meets its contract: a call that is not broken is one of the two.
 use Rattle.practice.proofs.Calls.{call_head, call_whole}
 use Rattle.practice.proofs.Lines.{tells_report, tells_question}
-use borrow.Author.Rules.{rules}
 use Rattle.practice.proofs.tell_call.Goals as goal
 
 pub tell_report-requires : goal.tell_report-requires

@@ -1,6 +1,5 @@
 -- `practice::tell_question` meets its contract: the hint in words, then the counts.
 use Rattle.practice.proofs.Lines.{question_told}
-use borrow.Author.Rules.{rules}
 use Rattle.practice.proofs.tell_question.Goals as goal
 
 pub returns : goal.returns

@@ -1,6 +1,5 @@
 -- `practice::tell_report` meets its contract: the word, then the counts.
 use Rattle.practice.proofs.Lines.{report_told}
-use borrow.Author.Rules.{rules}
 use Rattle.practice.proofs.tell_report.Goals as goal
 
 pub returns : goal.returns

@@ -1,6 +1,5 @@
 -- `ready::pre_left` meets its contract.
 use mathlib.Core.Path.{◌∙◌, sym, refl}
-use borrow.Author.Rules.{rules}
 use Rattle.cells.proofs.Contracts.{leaves_by, leaves_here}
 use Rattle.buttons.proofs.Plays.{alike_game, alike_at}
 use Rattle.preflaging.proofs.Cases.{pre_left_starts, pre_left_counts, pre_left_clears, pre_left_off}

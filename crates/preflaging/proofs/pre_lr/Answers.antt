@@ -1,5 +1,4 @@
 -- `ready::pre_lr` meets its contract.
-use borrow.Author.Rules.{rules}
 use Rattle.cells.proofs.Contracts.{leaves_by}
 use Rattle.buttons.proofs.Plays.{alike_moved, alike_at}
 use Rattle.preflaging.proofs.Cases.{pre_lr_left, pre_lr_play}

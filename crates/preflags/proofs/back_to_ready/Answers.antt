@@ -1,7 +1,6 @@
 -- `ready::back_to_ready` meets its contract.
 use mathlib.Core.Path.{◌∙◌, sym, refl}
 use mathlib.Core.List.{[]}
-use borrow.Author.Rules.{rules}
 use Rattle.preflags.proofs.Cases.{back_none, back_off, back_cell}
 use Rattle.preflags.proofs.back_to_ready.Goals as goal
 

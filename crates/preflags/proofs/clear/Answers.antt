@@ -1,6 +1,5 @@
 -- `preflags::clear` meets its contract.
 use mathlib.Core.Path.{refl}
-use borrow.Author.Rules.{rules}
 use Rattle.preflags.proofs.clear.Goals as goal
 
 pub returns : goal.returns

@@ -4,7 +4,7 @@ use mathlib.Core.Path.{◌≡◌, ◌∙◌, ap, refl}
 use mathlib.Core.List.{append-nil, List, ◌++◌}
 use lib.Seq.{drop-length}
 use borrow.Author.Fill.{fill_more}
-use Prim.Native.Nat.{ℕ, ◌≤◌, ◌-◌}
+use Prim.Native.Nat.{ℕ}
 use native.Mathlib.Omega.{arith}
 use lib.ListN.{length, drop, replicate, set, length-set}
 use Rattle.preflags.proofs.fill_zero.Goals as goal

@@ -1,12 +1,8 @@
 -- `preflags::fill_zero` meets its contract.
-use borrow.Author.Rules.{rules}
-use mathlib.Core.Path.{◌≡◌, ◌∙◌, ap, refl}
-use mathlib.Core.List.{append-nil, List, ◌++◌}
-use lib.Seq.{drop-length}
-use borrow.Author.Fill.{fill_more}
-use Prim.Native.Nat.{ℕ, ◌≤◌, ◌-◌}
-use native.Mathlib.Omega.{arith}
-use lib.ListN.{length, drop, replicate, set, length-set}
+use mathlib.Core.Path.{◌≡◌}
+use mathlib.Core.List.{◌++◌}
+use Prim.Native.Nat.{◌≤◌, ◌-◌}
+use lib.ListN.{length, drop, replicate}
 use Rattle.preflags.proofs.fill_zero.Given as goal
 
 abbrev pub invariant-loop-i : goal.invariant-loop-i

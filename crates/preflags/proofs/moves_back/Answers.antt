@@ -1,7 +1,6 @@
 -- `ready::moves_back` meets its contract.
 use mathlib.Core.Path.{◌∙◌, sym}
 use mathlib.Core.List.{[]}
-use borrow.Author.Rules.{rules}
 use Rattle.preflags.proofs.Cases.{moves_back_yes, moves_back_no}
 use Rattle.preflags.proofs.moves_back.Goals as goal
 

@@ -1,6 +1,5 @@
 -- `preflags::pre_cell` meets its contract.
 use mathlib.Core.Path.{◌∙◌, sym, refl}
-use borrow.Author.Rules.{rules}
 use Rattle.cells.proofs.Contracts.{leaves_by}
 use Rattle.preflags.proofs.Cases.{pre_cell_more, pre_cell_last, pre_cell_less, pre_cell_question}
 use Rattle.preflags.proofs.pre_cell.Goals as goal

@@ -1,5 +1,4 @@
 -- `ready::pre_flag` meets its contract.
-use borrow.Author.Rules.{rules}
 use Rattle.cells.proofs.Contracts.{leaves_by}
 use Rattle.preflags.proofs.Cases.{pre_flag_right}
 use Rattle.preflags.proofs.pre_flag.Goals as goal

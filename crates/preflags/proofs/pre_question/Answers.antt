@@ -1,5 +1,4 @@
 -- `preflags::pre_question` meets its contract.
-use borrow.Author.Rules.{rules}
 use Rattle.preflags.proofs.Cases.{pre_question_clears, pre_question_stays}
 use Rattle.preflags.proofs.pre_question.Goals as goal
 

@@ -1,5 +1,4 @@
 -- `ready::pre_rc` meets its contract.
-use borrow.Author.Rules.{rules}
 use Rattle.cells.proofs.Contracts.{leaves_by, leaves_here}
 use Rattle.preflags.proofs.Cases.{pre_rc_right, pre_rc_moved}
 use Rattle.preflags.proofs.pre_rc.Goals as goal

@@ -1,5 +1,4 @@
 -- `preflags::pre_right` meets its contract.
-use borrow.Author.Rules.{rules}
 use Rattle.cells.proofs.Contracts.{leaves_by, leaves_here}
 use Rattle.buttons.proofs.Plays.{pre_cell_needs}
 use Rattle.preflags.proofs.Cases.{pre_right_cell, pre_right_off}

@@ -1,6 +1,5 @@
 -- `preflags::take_last_back` meets its contract.
 use mathlib.Core.Path.{refl}
-use borrow.Author.Rules.{rules}
 use Rattle.preflags.proofs.take_last_back.Goals as goal
 
 pub returns : goal.returns

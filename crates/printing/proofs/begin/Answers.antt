@@ -1,5 +1,4 @@
 -- `printing::begin` meets its contract: the book's mine list is refused on no board of its size, and its desk is made fresh.
-use borrow.Author.Rules.{rules}
 use Rattle.printing.proofs.Beginning.{begun_mined, begun}
 use Rattle.printing.proofs.begin.Goals as goal
 

@@ -2,7 +2,6 @@
 use mathlib.Core.Path.{refl, ◌∙◌}
 use native.Mathlib.Omega.{arith}
 use Rattle.printing.proofs.Ending.{ending_asks, total_small, left_small, ending_put}
-use borrow.Author.Rules.{rules}
 use Rattle.printing.proofs.finish.Goals as goal
 
 pub total_3bv-total-requires : goal.total_3bv-total-requires

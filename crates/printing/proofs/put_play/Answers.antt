@@ -1,5 +1,4 @@
 -- `printing::put_play` meets its contract.
-use borrow.Author.Rules.{rules}
 use Rattle.printing.proofs.Ending.{play_line}
 use Rattle.printing.proofs.put_play.Goals as goal
 

@@ -1,6 +1,5 @@
 -- `reads::answer_for` meets its contract.
 use Rattle.reads.proofs.Reading.{answer_clear, answer_back}
-use borrow.Author.Rules.{rules}
 use Rattle.reads.proofs.answer_for.Goals as goal
 
 pub returns-then-clear : goal.returns-then-clear

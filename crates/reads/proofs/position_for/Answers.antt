@@ -1,6 +1,5 @@
 -- `reads::position_for` meets its contract.
 use Rattle.reads.proofs.Reading.{reads_clear, reads_spoilt}
-use borrow.Author.Rules.{rules}
 use Rattle.reads.proofs.position_for.Goals as goal
 
 pub returns-then-means : goal.returns-then-means

@@ -1,6 +1,5 @@
 -- `reads::reset_for` meets its contract.
 use Rattle.reads.proofs.Reading.{reset_done, reset_back}
-use borrow.Author.Rules.{rules}
 use Rattle.reads.proofs.reset_for.Goals as goal
 
 pub returns-then-n-eq0 : goal.returns-then-n-eq0

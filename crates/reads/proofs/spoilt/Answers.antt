@@ -1,6 +1,5 @@
 -- `reads::spoilt` meets its contract.
 use Rattle.reads.proofs.Reading.{spoils}
-use borrow.Author.Rules.{rules}
 use Rattle.reads.proofs.spoilt.Goals as goal
 
 pub returns : goal.returns

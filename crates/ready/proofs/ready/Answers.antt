@@ -1,5 +1,4 @@
 -- `events::ready` meets its contract.
-use borrow.Author.Rules.{rules}
 use Rattle.cells.proofs.Contracts.{leaves_by, leaves_here}
 use Rattle.buttons.proofs.Plays.{inside_event}
 use Rattle.rules.specs.Step.{ready}

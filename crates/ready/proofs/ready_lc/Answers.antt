@@ -1,7 +1,6 @@
 -- `ready::ready_lc` meets its contract.
 use mathlib.Core.Path.{◌∙◌, sym}
 use mathlib.Core.List.{[]}
-use borrow.Author.Rules.{rules}
 use Rattle.ready.proofs.Cases.{ready_lc_starts, ready_lc_moved}
 use Rattle.ready.proofs.ready_lc.Goals as goal
 

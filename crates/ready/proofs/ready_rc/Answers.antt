@@ -1,6 +1,5 @@
 -- `ready::ready_rc` meets its contract.
 use mathlib.Core.Path.{◌∙◌, sym}
-use borrow.Author.Rules.{rules}
 use Rattle.cells.proofs.Contracts.{leaves_by, leaves_here}
 use Rattle.buttons.proofs.Plays.{alike_set, alike_at}
 use Rattle.ready.proofs.Cases.{ready_rc_starts, ready_rc_moved}

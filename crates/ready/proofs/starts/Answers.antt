@@ -1,6 +1,5 @@
 -- `ready::starts` meets its contract.
 use borrow.Author.Tests.{eq-eqb, ne_eqb}
-use borrow.Author.Rules.{rules}
 use Rattle.ready.proofs.starts.Goals as goal
 
 pub returns-then-m-eq0 : goal.returns-then-m-eq0

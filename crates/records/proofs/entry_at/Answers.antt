@@ -1,7 +1,6 @@
 -- `records::entry_at` meets its contract: at each return the test that led there says which case holds.
 use mathlib.Core.Path.{sym}
 use Rattle.records.proofs.Entries.{entry_end, entry_event}
-use borrow.Author.Rules.{rules}
 use Rattle.records.proofs.entry_at.Goals as goal
 
 pub returns-then-section-n : goal.returns-then-section-n

@@ -1,7 +1,6 @@
 -- `records::index_after` meets its contract: at each return the test that led there says which case holds.
 use mathlib.Core.Path.{sym}
 use Rattle.records.proofs.Entries.{after_end, after_event}
-use borrow.Author.Rules.{rules}
 use Rattle.records.proofs.index_after.Goals as goal
 
 pub returns-then-n-section : goal.returns-then-n-section

@@ -1,5 +1,4 @@
 -- `refusals::boards_fit` meets its contract.
-use borrow.Author.Rules.{rules}
 use Rattle.refusals.proofs.Refusals.{boards_are}
 use Rattle.refusals.proofs.boards_fit.Goals as goal
 

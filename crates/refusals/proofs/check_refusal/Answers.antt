@@ -1,6 +1,5 @@
 -- `refusals::check_refusal` meets its contract.
 use mathlib.Core.Path.{sym, ◌∙◌}
-use borrow.Author.Rules.{rules}
 use Rattle.refusals.proofs.Refusals.{check_is}
 use Rattle.refusals.proofs.check_refusal.Goals as goal
 

@@ -1,6 +1,5 @@
 -- `refusals::flow_refusal` meets its contract.
 use mathlib.Core.Path.{◌∙◌, sym}
-use borrow.Author.Rules.{rules}
 use Rattle.cells.proofs.Words.{and_left}
 use Rattle.refusals.proofs.Refusals.{flow_is}
 use Rattle.refusals.proofs.flow_refusal.Goals as goal

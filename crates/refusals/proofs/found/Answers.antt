@@ -1,6 +1,5 @@
 -- `refusals::found` meets its contract.
 use mathlib.Core.Path.{ap}
-use borrow.Author.Rules.{rules}
 use Rattle.rules.specs.declared.Place.{Place}
 use Rattle.refusals.proofs.found.Goals as goal
 

@@ -1,6 +1,5 @@
 -- `refusals::lent_refusal` meets its contract.
 use mathlib.Core.Path.{sym, ◌∙◌}
-use borrow.Author.Rules.{rules}
 use Rattle.cells.proofs.Words.{and_left}
 use Rattle.refusals.proofs.Refusals.{lent_is}
 use Rattle.refusals.proofs.lent_refusal.Goals as goal

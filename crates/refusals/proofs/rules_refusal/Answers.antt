@@ -1,7 +1,6 @@
 -- `refusals::rules_refusal` meets its contract.
 use mathlib.Core.Path.{sym, ◌∙◌}
 use borrow.Author.Tests.{not-true, not-false}
-use borrow.Author.Rules.{rules}
 use mathlib.Core.Path.{ap}
 use mathlib.Core.Bool.{not}
 use Rattle.refusals.proofs.rules_refusal.Goals as goal

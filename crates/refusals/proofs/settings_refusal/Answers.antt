@@ -1,6 +1,5 @@
 -- `refusals::settings_refusal` meets its contract.
 use borrow.Author.Tests.{not-true, not-false}
-use borrow.Author.Rules.{rules}
 use Rattle.refusals.proofs.Refusals.{settings_refused, settings_last}
 use mathlib.Core.Path.{ap}
 use mathlib.Core.Bool.{not}

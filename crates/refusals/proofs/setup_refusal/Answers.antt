@@ -1,6 +1,5 @@
 -- `refusals::setup_refusal` meets its contract.
 use mathlib.Core.Path.{sym, ◌∙◌}
-use borrow.Author.Rules.{rules}
 use Rattle.refusals.proofs.Refusals.{fits_mines, setup_first, setup_last}
 use Rattle.refusals.proofs.setup_refusal.Goals as goal
 

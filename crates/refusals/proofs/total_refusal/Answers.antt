@@ -1,5 +1,4 @@
 -- `refusals::total_refusal` meets its contract.
-use borrow.Author.Rules.{rules}
 use Rattle.refusals.proofs.Refusals.{fit_mines, total_is}
 use Rattle.refusals.proofs.total_refusal.Goals as goal
 

@@ -1,5 +1,4 @@
 -- `refusals::work_fits` meets its contract.
-use borrow.Author.Rules.{rules}
 use Rattle.refusals.proofs.Refusals.{work_is}
 use Rattle.refusals.proofs.work_fits.Goals as goal
 

@@ -2,7 +2,6 @@ use borrow.Author.Tests.{leb-true, leb-false}
 use mathlib.Core.Path.{◌∙◌, sym}
 use Rattle.refusals.proofs.Faults.{check_placeable}
 use Rattle.resolving.proofs.Resolving.{resolve_unfit, resolve_bad, resolve_full, resolve_done}
-use borrow.Author.Rules.{rules}
 use Rattle.resolving.proofs.resolve.Goals as goal
 
 pub refuse-requires : goal.refuse-requires

@@ -1,6 +1,5 @@
 -- `rows::count_moves` meets its contract.
 use mathlib.Core.Path.{refl}
-use borrow.Author.Rules.{rules}
 use Rattle.rows.proofs.count_moves.Goals as goal
 
 pub returns : goal.returns

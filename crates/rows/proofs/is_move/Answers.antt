@@ -1,6 +1,5 @@
 -- `rows::is_move` meets its contract.
 use Rattle.rows.proofs.Runs.{no_move, other_code, move_is}
-use borrow.Author.Rules.{rules}
 use Rattle.rows.proofs.is_move.Goals as goal
 
 pub returns-in_default : goal.returns-in_default

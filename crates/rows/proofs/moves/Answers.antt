@@ -1,10 +1,7 @@
 -- `rows::moves` meets its contract.
-use mathlib.Core.Path.{◌≡◌, sym, ◌∙◌}
-use Prim.Native.Nat.{◌+◌, ◌-◌, ◌≤◌}
+use mathlib.Core.Path.{sym, ◌∙◌}
 use native.Mathlib.Omega.{arith}
 use borrow.Author.Tests.{not-false}
-use borrow.Author.Rules.{rules}
-use Rattle.rows.specs.Rows.{Moves}
 use Rattle.rows.proofs.Runs.{moves_none, moves_more}
 use mathlib.Core.Path.{ap}
 use mathlib.Core.Bool.{not}

@@ -1,6 +1,5 @@
 -- `rows::play_record` meets its contract.
 use Rattle.rows.proofs.Records.{entry_played, entry_ended}
-use borrow.Author.Rules.{rules}
 use Rattle.rows.proofs.play_record.Goals as goal
 
 pub returns-in-Event : goal.returns-in-Event

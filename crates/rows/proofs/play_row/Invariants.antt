@@ -1,12 +1,7 @@
 -- `rows::play_row` meets its contract.
-use mathlib.Core.Path.{ap}
 use Prim.Native.Nat.{◌-◌, ◌<◌, ◌≤◌}
-use native.Mathlib.Omega.{arith}
-use lib.ListN.{length}
-use borrow.Author.Rules.{rules}
 use Rattle.rules.specs.Clicks.{desk}
-use Rattle.rows.proofs.Records.{Row, row_start, row_next, row_end, row_refused, row_cells, row_bytes, row_blank}
-use Rattle.rows.proofs.Runs.{row_run, counted_small}
+use Rattle.rows.proofs.Records.{Row}
 use Rattle.rows.proofs.play_row.Given as goal
 
 abbrev pub invariant-loop-e : goal.invariant-loop-e

@@ -1,7 +1,6 @@
 -- `scrub::drag_on` meets its contract.
 use native.Mathlib.Omega.{arith}
 use Rattle.scrub.proofs.Telling.{told_of}
-use borrow.Author.Rules.{rules}
 use Rattle.scrub.proofs.drag_on.Goals as goal
 
 pub tell-requires : goal.tell-requires

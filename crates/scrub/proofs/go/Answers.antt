@@ -3,7 +3,6 @@ use mathlib.Core.Path.{sym}
 use native.Mathlib.Omega.{arith}
 use lib.Seq.{length-take-le}
 use Rattle.scrub.proofs.Telling.{book_sized}
-use borrow.Author.Rules.{rules}
 use Rattle.scrub.proofs.go.Goals as goal
 
 pub slice_bounds-mines-end : goal.slice_bounds-mines-end

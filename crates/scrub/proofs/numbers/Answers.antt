@@ -1,6 +1,5 @@
 -- `scrub::numbers` meets its contract.
 use Rattle.scrub.proofs.Telling.{numbers_are}
-use borrow.Author.Rules.{rules}
 use Rattle.scrub.proofs.numbers.Goals as goal
 
 pub returns : goal.returns

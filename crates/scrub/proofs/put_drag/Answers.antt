@@ -1,7 +1,6 @@
 -- `scrub::put_drag` meets its contract.
 use Rattle.scrub.proofs.Telling.{refused_room, put_refusal, line_room, rows_room, put_told}
 use mathlib.Core.Path.{refl}
-use borrow.Author.Rules.{rules}
 use Rattle.scrub.proofs.put_drag.Goals as goal
 
 pub put_word_line-requires : goal.put_word_line-requires

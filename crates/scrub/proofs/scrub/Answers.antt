@@ -3,7 +3,6 @@ use mathlib.Core.Path.{sym}
 use native.Mathlib.Omega.{arith}
 use lib.Seq.{length-take-le}
 use Rattle.scrub.proofs.Telling.{opened_book, opened_place}
-use borrow.Author.Rules.{rules}
 use Rattle.scrub.proofs.scrub.Goals as goal
 
 pub refuse-requires : goal.refuse-requires

@@ -3,7 +3,6 @@ use mathlib.Core.Path.{sym}
 use native.Mathlib.Omega.{arith}
 use lib.Seq.{length-take-le}
 use Rattle.scrub.proofs.Telling.{told_fits, told_whole}
-use borrow.Author.Rules.{rules}
 use Rattle.scrub.proofs.tell.Goals as goal
 
 pub slice_bounds-out-end : goal.slice_bounds-out-end

@@ -1,9 +1,6 @@
 -- `scrub::walk` meets its contract.
-use mathlib.Core.Path.{◌≡◌, refl, ◌∙◌}
-use Prim.Native.Nat.{◌-◌}
-use lib.ListN.{length}
+use mathlib.Core.Path.{◌∙◌}
 use native.Mathlib.Omega.{arith}
-use borrow.Author.Rules.{rules}
 use Rattle.scrub.proofs.walk.Goals as goal
 
 pub take_word-t-requires : goal.take_word-t-requires

@@ -1,9 +1,7 @@
 -- `scrub::walk` meets its contract.
-use mathlib.Core.Path.{◌≡◌, refl, ◌∙◌}
+use mathlib.Core.Path.{◌≡◌}
 use Prim.Native.Nat.{◌-◌}
 use lib.ListN.{length}
-use native.Mathlib.Omega.{arith}
-use borrow.Author.Rules.{rules}
 use Rattle.scrub.proofs.walk.Given as goal
 
 abbrev pub invariant-loop-i : goal.invariant-loop-i

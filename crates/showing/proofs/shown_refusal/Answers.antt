@@ -1,6 +1,5 @@
 -- `showing::shown_refusal` meets its contract: each `return` is one case of the chain.
 use borrow.Author.Tests.{not-true, not-false}
-use borrow.Author.Rules.{rules}
 use Rattle.boards.proofs.Tests.{says_no, says_yes}
 use Rattle.showing.proofs.Shown.{refused_size, refused_length, refused_last}
 use mathlib.Core.Path.{ap}

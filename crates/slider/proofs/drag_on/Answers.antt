@@ -1,6 +1,5 @@
 -- `slider::drag_on` meets its contract.
 use Rattle.slider.proofs.Dragging.{begun_ready, events_there, drag_done}
-use borrow.Author.Rules.{rules}
 use Rattle.slider.proofs.drag_on.Goals as goal
 
 pub slide_to-o-requires : goal.slide_to-o-requires

@@ -1,6 +1,5 @@
 -- `slider::drag_refusal` meets its contract.
 use Rattle.slider.proofs.Dragging.{own_refusal, refusal_21, refusal_70, refusal_71, refusal_72, refusal_none}
-use borrow.Author.Rules.{rules}
 use mathlib.Core.Path.{ap}
 use mathlib.Core.Bool.{not}
 use Rattle.slider.proofs.drag_refusal.Goals as goal

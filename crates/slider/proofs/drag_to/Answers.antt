@@ -1,7 +1,6 @@
 -- `slider::drag_to` meets its contract.
 use mathlib.Core.Path.{◌∙◌}
 use Rattle.slider.proofs.Dragging.{lent_fit, call_refused, call_accepted, call_dragged}
-use borrow.Author.Rules.{rules}
 use Rattle.slider.proofs.drag_to.Goals as goal
 
 pub returns-then-number-ne0 : goal.returns-then-number-ne0

@@ -1,6 +1,5 @@
 -- `slider::lent_fits` meets its contract.
 use Rattle.slider.proofs.Dragging.{lent_are}
-use borrow.Author.Rules.{rules}
 use Rattle.slider.proofs.lent_fits.Goals as goal
 
 pub returns : goal.returns

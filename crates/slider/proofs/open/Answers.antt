@@ -1,6 +1,5 @@
 -- `slider::open` meets its contract.
 use Rattle.slider.proofs.Dragging.{open_is}
-use borrow.Author.Rules.{rules}
 use Rattle.slider.proofs.open.Goals as goal
 
 pub returns : goal.returns

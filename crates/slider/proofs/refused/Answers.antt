@@ -1,6 +1,5 @@
 -- `slider::refused` meets its contract.
 use Rattle.slider.proofs.Dragging.{refused_is}
-use borrow.Author.Rules.{rules}
 use Rattle.slider.proofs.refused.Goals as goal
 
 pub returns : goal.returns

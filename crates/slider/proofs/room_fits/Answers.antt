@@ -1,6 +1,5 @@
 -- `slider::room_fits` meets its contract.
 use Rattle.slider.proofs.Dragging.{room_are}
-use borrow.Author.Rules.{rules}
 use Rattle.slider.proofs.room_fits.Goals as goal
 
 pub returns : goal.returns

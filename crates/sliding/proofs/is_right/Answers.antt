@@ -1,7 +1,6 @@
 -- `sliding::is_right` meets its contract.
 use lib.Dec.{eqb}
 use Rattle.sliding.proofs.Dragging.{right_is}
-use borrow.Author.Rules.{rules}
 use Rattle.sliding.proofs.is_right.Goals as goal
 
 pub returns : goal.returns

@@ -1,6 +1,5 @@
 -- `sliding::same_settings` meets its contract.
 use Rattle.sliding.proofs.Dragging.{same_is}
-use borrow.Author.Rules.{rules}
 use Rattle.sliding.proofs.same_settings.Goals as goal
 
 pub returns : goal.returns

@@ -2,7 +2,6 @@
 use mathlib.Core.Path.{sym, ◌∙◌}
 use native.Mathlib.Omega.{arith}
 use Rattle.sliding.proofs.Dragging.{slot_ends, taken_checkable, taken_fits, taken_lawful, taken_blank, back_lawful, back_blank, drag_right, drag_wrong}
-use borrow.Author.Rules.{rules}
 use Rattle.sliding.proofs.slide_from.Goals as goal
 
 pub overflow_mul-at : goal.overflow_mul-at

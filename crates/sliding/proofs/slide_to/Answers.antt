@@ -2,7 +2,6 @@
 use mathlib.Core.Path.{◌∙◌}
 use native.Mathlib.Omega.{arith}
 use Rattle.sliding.proofs.Dragging.{start_drag, startable, from_drag}
-use borrow.Author.Rules.{rules}
 use Rattle.sliding.proofs.slide_to.Goals as goal
 
 pub glide-o-requires : goal.glide-o-requires

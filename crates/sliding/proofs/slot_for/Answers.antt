@@ -1,6 +1,5 @@
 -- `sliding::slot_for` meets its contract.
 use Rattle.sliding.proofs.Dragging.{slot_first, slot_second}
-use borrow.Author.Rules.{rules}
 use Rattle.sliding.proofs.slot_for.Goals as goal
 
 pub returns-then-kept-n : goal.returns-then-kept-n

@@ -1,7 +1,5 @@
 -- `steps::main` meets its contract: the rooms keep their lengths, and each turn leaves one step fewer.
-use borrow.Author.Rules.{rules}
 use Rattle.steps.specs.Rooms.{Rooms}
-use Rattle.steps.proofs.Lending.{rooms_kept}
 use Rattle.steps.proofs.main.Given as goal
 
 abbrev pub invariant-loop-left : goal.invariant-loop-left

@@ -1,5 +1,4 @@
 -- `steps::play_next` meets its contract: a length of two bytes is a part of its room.
-use borrow.Author.Rules.{rules}
 use Rattle.steps.proofs.Lending.{part_within, part_length, part_back, parts_fit}
 use Rattle.steps.proofs.play_next.Goals as goal
 

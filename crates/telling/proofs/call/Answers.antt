@@ -1,6 +1,5 @@
 use Rattle.rules.specs.Clicks.{desk}
 use Rattle.telling.proofs.Telling.{called_resolve, called_step, called_pair}
-use borrow.Author.Rules.{rules}
 use Rattle.telling.proofs.call.Goals as goal
 
 pub returns-then-which-eq1 : goal.returns-then-which-eq1

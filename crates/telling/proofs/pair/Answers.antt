@@ -1,7 +1,6 @@
 use native.Mathlib.Omega.{arith}
 use Rattle.rules.specs.Clicks.{desk}
 use Rattle.telling.proofs.Telling.{plain_byte, pair_refused, pair_played}
-use borrow.Author.Rules.{rules}
 use Rattle.telling.proofs.pair.Goals as goal
 
 pub returns-then-a-ne0 : goal.returns-then-a-ne0

@@ -2,7 +2,6 @@
 use mathlib.Core.Path.{sym, ◌∙◌}
 use native.Mathlib.Omega.{arith}
 use lib.Seq.{length-take-le}
-use borrow.Author.Rules.{rules}
 use Rattle.telling.proofs.play_rest.Goals as goal
 
 pub shape_of-bytes-then-not-read_lent : goal.shape_of-bytes-then-not-read_lent

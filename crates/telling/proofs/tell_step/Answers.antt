@@ -1,6 +1,5 @@
 use native.Mathlib.Omega.{arith}
 use Rattle.telling.proofs.Telling.{step_told}
-use borrow.Author.Rules.{rules}
 use Rattle.telling.proofs.tell_step.Goals as goal
 
 pub put_outcome-requires : goal.put_outcome-requires

@@ -3,7 +3,6 @@ use mathlib.Core.List.{◌∷◌, []}
 use Rattle.rules.specs.Printout.{word_bv}
 use Rattle.text.proofs.Lengths.{word_line_most}
 use Rattle.writing.proofs.Putting.{room_within, within}
-use borrow.Author.Rules.{rules}
 use Rattle.text.proofs.put_bv.Goals as goal
 
 pub put_word_line-requires : goal.put_word_line-requires

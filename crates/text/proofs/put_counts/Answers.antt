@@ -3,7 +3,6 @@ use mathlib.Core.List.{◌∷◌, []}
 use Rattle.rules.specs.Printout.{word_counts}
 use Rattle.text.proofs.Lengths.{word_line_most}
 use Rattle.writing.proofs.Putting.{room_within, within}
-use borrow.Author.Rules.{rules}
 use Rattle.text.proofs.put_counts.Goals as goal
 
 pub put_word_line-requires : goal.put_word_line-requires

@@ -2,7 +2,6 @@
 use native.Mathlib.Omega.{arith}
 use native.Mathlib.Nat.{le_refl}
 use Rattle.writing.proofs.Putting.{within_then}
-use borrow.Author.Rules.{rules}
 use Rattle.text.proofs.put_end.Goals as goal
 
 pub returns : goal.returns

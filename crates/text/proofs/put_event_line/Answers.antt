@@ -2,7 +2,6 @@
 use native.Mathlib.Omega.{arith}
 use Rattle.text.proofs.Lengths.{event_length}
 use Rattle.writing.proofs.Putting.{room_within, within}
-use borrow.Author.Rules.{rules}
 use Rattle.text.proofs.put_event_line.Goals as goal
 
 pub put_line-requires : goal.put_line-requires

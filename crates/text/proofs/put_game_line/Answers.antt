@@ -4,7 +4,6 @@ use Rattle.cells.proofs.Words.{is_bit, bit_le}
 use Rattle.writing.proofs.Putting.{put_as, room_within, within}
 use Rattle.text.proofs.Lines.{game_as}
 use Rattle.text.proofs.Lengths.{game_length}
-use borrow.Author.Rules.{rules}
 use Rattle.text.proofs.put_game_line.Goals as goal
 
 pub put_word_line-requires : goal.put_word_line-requires

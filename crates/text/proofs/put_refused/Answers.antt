@@ -1,7 +1,6 @@
 -- `text::put_refused` meets its contract: the word, the number, and the place's line, one after the other.
 use Rattle.writing.proofs.Putting.{room_first, room_second, put_then, within}
 use Rattle.text.proofs.Lengths.{refused_length, refused_room}
-use borrow.Author.Rules.{rules}
 use Rattle.text.proofs.put_refused.Goals as goal
 
 pub put_spaced-next-requires : goal.put_spaced-next-requires

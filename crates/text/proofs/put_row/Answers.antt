@@ -2,7 +2,6 @@
 use Rattle.writing.proofs.Putting.{room_first, room_second, room_as, put_then, put_as}
 use mathlib.Core.Path.{sym}
 use Rattle.text.proofs.Lines.{row_parts}
-use borrow.Author.Rules.{rules}
 use Rattle.text.proofs.put_row.Goals as goal
 
 pub put_decimal-first-requires : goal.put_decimal-first-requires

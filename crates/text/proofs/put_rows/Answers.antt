@@ -2,7 +2,7 @@
 -- The measure is how many are left.
 use native.Mathlib.Omega.{arith}
 use borrow.Author.Rules.{rules}
-use Rattle.text.proofs.Rows.{Going, going_start, going_inside, going_row, going_room, going_turn, going_done}
+use Rattle.text.proofs.Rows.{going_start, going_inside, going_row, going_room, going_turn, going_done}
 use Rattle.text.proofs.put_rows.Goals as goal
 
 pub loop-left-init : goal.loop-left-init

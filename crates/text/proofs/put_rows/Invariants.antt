@@ -1,8 +1,6 @@
 -- `text::put_rows` meets its contract. The invariant: the rows not yet taken, written from here on, make the whole text.
 -- The measure is how many are left.
-use native.Mathlib.Omega.{arith}
-use borrow.Author.Rules.{rules}
-use Rattle.text.proofs.Rows.{Going, going_start, going_inside, going_row, going_room, going_turn, going_done}
+use Rattle.text.proofs.Rows.{Going}
 use Rattle.text.proofs.put_rows.Given as goal
 
 abbrev pub invariant-loop-left : goal.invariant-loop-left

@@ -1,7 +1,6 @@
 -- `to_picture::write_board` meets its contract: the writer accepts the board, and what it wrote is handed over.
 use mathlib.Core.Path.{sym}
 use lib.Seq.{length-take-le}
-use borrow.Author.Rules.{rules}
 use Rattle.last_board.proofs.Showable.{board_fits}
 use Rattle.to_picture.proofs.Drawn.{picture_fits, picture_handed}
 use Rattle.to_picture.proofs.write_board.Goals as goal

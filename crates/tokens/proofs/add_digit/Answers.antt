@@ -1,6 +1,5 @@
 -- `tokens::add_digit` meets its contract: a digit after a number below 10 makes one below 100, after any other one from 100 on.
 use native.Mathlib.Omega.{arith}
-use borrow.Author.Rules.{rules}
 use Rattle.tokens.proofs.Counted.{digit_low, digit_high, digit_fits, digit_over}
 use Rattle.tokens.proofs.add_digit.Goals as goal
 

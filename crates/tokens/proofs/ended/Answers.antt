@@ -1,5 +1,4 @@
 -- `tokens::ended` meets its contract: the byte ends the number, or there is none.
-use borrow.Author.Rules.{rules}
 use Rattle.tokens.proofs.Tokens.{ended_yes, ended_no}
 use Rattle.tokens.proofs.ended.Goals as goal
 

@@ -1,14 +1,8 @@
 -- `tokens::number_from` meets its contract: the digits not yet counted, after the exact value that stands behind the counted one, make the whole number. The measure is what is left of the bytes.
-use mathlib.Core.Path.{◌∙◌, sym}
 use Prim.Native.Nat.{◌-◌}
-use native.Mathlib.Omega.{arith}
 use lib.ListN.{length, drop}
-use borrow.Author.Rules.{rules}
-use borrow.Author.Tests.{not-true, not-false}
 use Rattle.rules.specs.Picture.{number_from}
-use Rattle.tokens.proofs.Tokens.{Counting, counting_start, counting_turn, counting_stops, counting_ends}
-use mathlib.Core.Path.{ap}
-use mathlib.Core.Bool.{not}
+use Rattle.tokens.proofs.Tokens.{Counting}
 use Rattle.tokens.proofs.number_from.Given as goal
 
 abbrev pub invariant-loop-at : goal.invariant-loop-at

@@ -1,15 +1,9 @@
 -- `tokens::skip` meets its contract: from here on the same bytes are skipped as from the start. The measure is what is left of the bytes.
-use mathlib.Core.Path.{◌≡◌, refl}
+use mathlib.Core.Path.{◌≡◌}
 use mathlib.Core.Bool.{false}
 use Prim.Native.Nat.{◌-◌}
-use native.Mathlib.Omega.{arith}
 use lib.ListN.{length, drop}
-use borrow.Author.Rules.{rules}
-use borrow.Author.Tests.{not-true, not-false}
 use Rattle.rules.specs.Picture.{skipped}
-use Rattle.tokens.proofs.Skipping.{skip_turn, skip_stops, skip_ends}
-use mathlib.Core.Path.{ap}
-use mathlib.Core.Bool.{not}
 use Rattle.tokens.proofs.skip.Given as goal
 
 abbrev pub invariant-loop-at : goal.invariant-loop-at

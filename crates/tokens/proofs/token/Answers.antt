@@ -1,7 +1,6 @@
 -- `tokens::token` meets its contract: what stands at the place that skipping gave.
 use mathlib.Core.Path.{◌∙◌, sym}
 use borrow.Author.Tests.{not-true, not-false}
-use borrow.Author.Rules.{rules}
 use Rattle.tokens.proofs.Tokens.{taken_at_end, taken_at_none, taken_at_number}
 use mathlib.Core.Path.{ap}
 use mathlib.Core.Bool.{not}

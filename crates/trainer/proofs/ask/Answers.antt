@@ -1,6 +1,5 @@
 -- `trainer::ask` meets its contract.
 use Rattle.trainer.proofs.Scoring.{asked_made}
-use borrow.Author.Rules.{rules}
 use Rattle.trainer.proofs.ask.Goals as goal
 
 pub returns : goal.returns

@@ -1,7 +1,6 @@
 -- `trainer::column_of` meets its contract: a column of the board fits a byte.
 use native.Mathlib.Omega.{arith}
 use Rattle.cells.proofs.Grid.{on_grid}
-use borrow.Author.Rules.{rules}
 use Rattle.trainer.proofs.column_of.Goals as goal
 
 pub overflow_cast-result : goal.overflow_cast-result

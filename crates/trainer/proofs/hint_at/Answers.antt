@@ -1,7 +1,6 @@
 -- `trainer::hint_at` meets its contract: a number that justifies is on the board.
 use Rattle.cells.proofs.Grid.{on_grid}
 use Rattle.trainer.proofs.Hints.{number_below, hint_made}
-use borrow.Author.Rules.{rules}
 use Rattle.trainer.proofs.hint_at.Goals as goal
 
 pub neighbour_at-q-requires : goal.neighbour_at-q-requires

@@ -1,6 +1,5 @@
 -- `trainer::hint_on` meets its contract: refused, or the offer on a board without a fault.
 use Rattle.trainer.proofs.Hints.{hint_refused, wide_sized, wide_long, wide_offer}
-use borrow.Author.Rules.{rules}
 use Rattle.trainer.proofs.hint_on.Goals as goal
 
 pub returns-then-number-ne0 : goal.returns-then-number-ne0

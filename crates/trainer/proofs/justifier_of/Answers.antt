@@ -1,9 +1,7 @@
 -- `trainer::justifier_of` meets its contract: no place passed so far justifies the cell.
 use mathlib.Core.Path.{◌≡◌, sym, ap}
 use mathlib.Core.Bool.{true, not}
-use Prim.Native.Nat.{◌≤◌, ◌-◌}
 use native.Mathlib.Omega.{arith}
-use Rattle.rules.specs.Words.{every}
 use Rattle.cells.proofs.Grid.{on_grid}
 use Rattle.cells.proofs.Words.{every_turn}
 use Rattle.cells.proofs.Firsts.{first_none}
@@ -27,10 +25,10 @@ returns-then-fine c = let a = c.args in
 
 pub loop-k-preserved : goal.loop-k-preserved
 loop-k-preserved c = let a = c.args in (
-      omega arith,
-      every_turn (misses (beside a.rows a.columns a.shown.now a.cell)) _ c.loop-k.invariant.1
-          (ap not (beside_at _ _ a.shown.now _ _ c.neighbour_at-q.ensures c.justifies_at-fine.ensures c.if-fine.false)),
-    )
+  omega arith,
+  every_turn (misses (beside a.rows a.columns a.shown.now a.cell)) _ c.loop-k.invariant.1
+      (ap not (beside_at _ _ a.shown.now _ _ c.neighbour_at-q.ensures c.justifies_at-fine.ensures c.if-fine.false)),
+)
 
 pub returns : goal.returns
 returns c = let a = c.args in

@@ -2,7 +2,6 @@
 use native.Mathlib.Omega.{arith}
 use Rattle.cells.proofs.Grid.{on_grid, cell_back}
 use Rattle.trainer.proofs.Hints.{justifies_off, justifies_zero, justifies_high, justifies_flags}
-use borrow.Author.Rules.{rules}
 use Rattle.trainer.proofs.justifies_at.Goals as goal
 
 pub returns-then-shown-cell : goal.returns-then-shown-cell

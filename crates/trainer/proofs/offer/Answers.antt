@@ -2,7 +2,6 @@
 use native.Mathlib.Omega.{arith}
 use mathlib.Core.Path.{◌∙◌}
 use Rattle.trainer.proofs.Hints.{offer_none, offer_cell, offer_justified}
-use borrow.Author.Rules.{rules}
 use Rattle.trainer.proofs.offer.Goals as goal
 
 pub returns-then-shown-i : goal.returns-then-shown-i

@@ -1,6 +1,5 @@
 -- `trainer::offered_at` meets its contract: some neighbour justifies the cell exactly where there is a first.
 use Rattle.trainer.proofs.Hints.{offered_shut, offered_by}
-use borrow.Author.Rules.{rules}
 use Rattle.trainer.proofs.offered_at.Goals as goal
 
 pub returns-then-shown-cell-ne10 : goal.returns-then-shown-cell-ne10

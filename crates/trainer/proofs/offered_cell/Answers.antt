@@ -1,10 +1,7 @@
 -- `trainer::offered_cell` meets its contract: no cell passed so far is offered.
-use mathlib.Core.Path.{◌≡◌, sym, ap, ◌∙◌, refl}
+use mathlib.Core.Path.{sym, ap, ◌∙◌, refl}
 use mathlib.Core.Bool.{true, not}
-use Prim.Native.Nat.{◌≤◌, ◌-◌}
 use native.Mathlib.Omega.{arith}
-use lib.ListN.{length}
-use Rattle.rules.specs.Words.{every}
 use Rattle.cells.proofs.Words.{every_turn}
 use Rattle.rules.specs.Trainer.{offered}
 use Rattle.trainer.proofs.Firsts.{misses, none_all, first_found}
@@ -23,10 +20,10 @@ returns-then-fine c = let a = c.args in
 
 pub loop-i-preserved : goal.loop-i-preserved
 loop-i-preserved c = let a = c.args in (
-      c.loop-i.invariant.0,
-      omega arith,
-      every_turn (misses (offered a.rows a.columns a.shown.now)) _ c.loop-i.invariant.2 (ap not (sym c.offered_at-fine.ensures ∙ c.if-fine.false)),
-    )
+  c.loop-i.invariant.0,
+  omega arith,
+  every_turn (misses (offered a.rows a.columns a.shown.now)) _ c.loop-i.invariant.2 (ap not (sym c.offered_at-fine.ensures ∙ c.if-fine.false)),
+)
 
 pub returns : goal.returns
 returns c = let a = c.args in

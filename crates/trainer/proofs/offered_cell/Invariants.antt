@@ -1,14 +1,11 @@
 -- `trainer::offered_cell` meets its contract: no cell passed so far is offered.
-use mathlib.Core.Path.{◌≡◌, sym, ap, ◌∙◌, refl}
-use mathlib.Core.Bool.{true, not}
+use mathlib.Core.Path.{◌≡◌}
+use mathlib.Core.Bool.{true}
 use Prim.Native.Nat.{◌≤◌, ◌-◌}
-use native.Mathlib.Omega.{arith}
 use lib.ListN.{length}
 use Rattle.rules.specs.Words.{every}
-use Rattle.cells.proofs.Words.{every_turn}
 use Rattle.rules.specs.Trainer.{offered}
-use Rattle.trainer.proofs.Firsts.{misses, none_all, first_found}
-use Rattle.trainer.proofs.Hints.{all_tried}
+use Rattle.trainer.proofs.Firsts.{misses}
 use Rattle.trainer.proofs.offered_cell.Given as goal
 
 abbrev pub invariant-loop-i : goal.invariant-loop-i

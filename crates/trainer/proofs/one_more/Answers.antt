@@ -1,6 +1,5 @@
 -- `trainer::one_more` meets its contract.
 use borrow.Author.Tests.{lt-ltb, le-ltb}
-use borrow.Author.Rules.{rules}
 use Rattle.trainer.proofs.one_more.Goals as goal
 
 pub returns-then-n-lt65535 : goal.returns-then-n-lt65535

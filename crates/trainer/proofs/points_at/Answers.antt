@@ -1,5 +1,4 @@
 -- `trainer::points_at` meets its contract.
-use borrow.Author.Rules.{rules}
 use Rattle.trainer.proofs.points_at.Goals as goal
 
 pub returns-in-At : goal.returns-in-At

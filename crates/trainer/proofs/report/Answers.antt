@@ -1,6 +1,5 @@
 -- `trainer::report` meets its contract.
 use Rattle.trainer.proofs.Scoring.{report_none, report_follows, report_leaves}
-use borrow.Author.Rules.{rules}
 use Rattle.trainer.proofs.report.Goals as goal
 
 pub returns-then-opened-eq0 : goal.returns-then-opened-eq0

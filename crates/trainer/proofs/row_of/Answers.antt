@@ -1,7 +1,6 @@
 -- `trainer::row_of` meets its contract: a row of the board fits a byte.
 use native.Mathlib.Omega.{arith}
 use Rattle.cells.proofs.Grid.{on_grid}
-use borrow.Author.Rules.{rules}
 use Rattle.trainer.proofs.row_of.Goals as goal
 
 pub overflow_cast-result : goal.overflow_cast-result

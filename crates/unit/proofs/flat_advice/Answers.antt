@@ -1,5 +1,4 @@
 -- `unit::flat_advice` meets its contract.
-use borrow.Author.Rules.{rules}
 use Rattle.unit.proofs.flat_advice.Goals as goal
 
 pub returns : goal.returns

@@ -1,5 +1,4 @@
 -- `unit::flat_hint` meets its contract: one case for each kind of hint.
-use borrow.Author.Rules.{rules}
 use Rattle.unit.proofs.flat_hint.Goals as goal
 
 pub returns-in-Cell : goal.returns-in-Cell

@@ -1,5 +1,4 @@
 -- `unit::flat_score` meets its contract.
-use borrow.Author.Rules.{rules}
 use Rattle.unit.proofs.flat_score.Goals as goal
 
 pub returns : goal.returns

@@ -1,6 +1,5 @@
 -- `unit::lmt_ask` meets its contract.
 use Rattle.unit.proofs.Making.{ask_flat}
-use borrow.Author.Rules.{rules}
 use Rattle.unit.proofs.lmt_ask.Goals as goal
 
 pub returns : goal.returns

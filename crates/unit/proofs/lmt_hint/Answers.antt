@@ -1,6 +1,5 @@
 -- `unit::lmt_hint` meets its contract.
 use mathlib.Core.Path.{ap, ◌∙◌}
-use borrow.Author.Rules.{rules}
 use Rattle.unit.specs.Unit.{flat_hint}
 use Rattle.unit.proofs.lmt_hint.Goals as goal
 

@@ -1,6 +1,5 @@
 -- `unit::lmt_report` meets its contract.
 use Rattle.unit.proofs.Making.{report_flat}
-use borrow.Author.Rules.{rules}
 use Rattle.unit.proofs.lmt_report.Goals as goal
 
 pub returns : goal.returns

@@ -1,5 +1,4 @@
 -- `unit::score_in` meets its contract.
-use borrow.Author.Rules.{rules}
 use Rattle.unit.proofs.score_in.Goals as goal
 
 pub returns : goal.returns

@@ -1,5 +1,4 @@
 -- `vectors::main` meets its contract: each turn leaves one book fewer.
-use borrow.Author.Rules.{rules}
 use Rattle.vectors.proofs.main.Given as goal
 
 abbrev pub invariant-loop-left : goal.invariant-loop-left

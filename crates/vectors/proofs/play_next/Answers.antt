@@ -2,7 +2,6 @@
 use mathlib.Core.Path.{sym}
 use native.Mathlib.Omega.{arith}
 use lib.Seq.{length-take-le}
-use borrow.Author.Rules.{rules}
 use Rattle.vectors.proofs.play_next.Goals as goal
 
 pub slice_bounds-play_in-end : goal.slice_bounds-play_in-end

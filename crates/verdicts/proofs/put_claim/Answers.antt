@@ -1,5 +1,4 @@
 use Rattle.writing.proofs.Putting.{room_first, room_second, put_then}
-use borrow.Author.Rules.{rules}
 use Rattle.verdicts.proofs.put_claim.Goals as goal
 
 -- src/lib.rt:25:9

@@ -2,7 +2,6 @@ use mathlib.Core.Path.{ap, refl}
 use native.Mathlib.Omega.{arith}
 use Rattle.verdicts.specs.Places.{place_in}
 use Rattle.verdicts.proofs.Lines.{case_room, case_put, case_none}
-use borrow.Author.Rules.{rules}
 use Rattle.verdicts.proofs.put_tail.Goals as goal
 
 -- src/lib.rt:38:76

@@ -1,6 +1,5 @@
 use Rattle.writing.proofs.Putting.{room_first, room_second}
 use Rattle.verdicts.proofs.Lines.{accepted_room, accepted_put, number_room, tail_room, end_room, refusal_put}
-use borrow.Author.Rules.{rules}
 use Rattle.verdicts.proofs.put_verdict.Goals as goal
 
 -- src/lib.rt:53:13

@@ -1,13 +1,7 @@
 -- `viewing::cells_fault` meets its contract: the cells not yet judged have the fault of the whole. The measure is how many are left.
-use mathlib.Core.Path.{◌≡◌, refl}
-use native.Mathlib.Omega.{arith}
+use mathlib.Core.Path.{◌≡◌}
 use lib.ListN.{drop}
-use borrow.Author.Rules.{rules}
-use borrow.Author.Tests.{not-true, not-false}
 use Rattle.rules.specs.Picture.{cells_refusal}
-use Rattle.viewing.proofs.Cells.{judge_fault, judge_bad, judge_turn, judge_over, judge_done}
-use mathlib.Core.Path.{ap}
-use mathlib.Core.Bool.{not}
 use Rattle.viewing.proofs.cells_fault.Given as goal
 
 abbrev pub invariant-loop-left : goal.invariant-loop-left

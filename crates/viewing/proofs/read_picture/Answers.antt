@@ -1,6 +1,5 @@
 -- `viewing::read_picture` meets its contract: a refusal leaves the room as it was; what is taken has passed every test.
 use native.Mathlib.Omega.{arith}
-use borrow.Author.Rules.{rules}
 use Rattle.viewing.proofs.Viewing.{read_refused, read_unfit, read_no_head, read_judged, read_may_take, read_taken}
 use Rattle.viewing.proofs.read_picture.Goals as goal
 

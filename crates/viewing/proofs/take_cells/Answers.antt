@@ -1,9 +1,5 @@
 -- `viewing::take_cells` meets its contract: the cells not yet taken, written from here on, make the whole. The measure is how many are left.
-use Prim.Native.Nat.{◌-◌}
-use lib.ListN.{drop}
-use borrow.Author.Rules.{rules}
-use Rattle.rules.specs.Picture.{cell_values}
-use Rattle.viewing.proofs.Cells.{Filling, filling_start, filling_byte, filling_less, filling_turn, filling_done}
+use Rattle.viewing.proofs.Cells.{filling_start, filling_byte, filling_less, filling_turn, filling_done}
 use Rattle.viewing.proofs.take_cells.Goals as goal
 
 pub loop-i-init : goal.loop-i-init

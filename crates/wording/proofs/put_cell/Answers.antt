@@ -1,6 +1,5 @@
 -- `wording::put_cell` meets its contract: the four parts, one after the other.
 use Rattle.writing.proofs.Putting.{room_first, room_second, put_then}
-use borrow.Author.Rules.{rules}
 use Rattle.wording.proofs.put_cell.Goals as goal
 
 pub put_spaced-second-requires : goal.put_spaced-second-requires

@@ -2,7 +2,6 @@
 use mathlib.Core.Path.{sym}
 use Rattle.rules.specs.declared.Hint.TheVariants.{Cell, Refused}
 use Rattle.wording.proofs.Lengths.{words_room, words_put}
-use borrow.Author.Rules.{rules}
 use Rattle.wording.proofs.put_hint.Goals as goal
 
 pub put_cell-requires : goal.put_cell-requires

@@ -1,6 +1,5 @@
 -- `wording::put_refused` meets its contract.
 use Rattle.writing.proofs.Putting.{put_then}
-use borrow.Author.Rules.{rules}
 use Rattle.wording.proofs.put_refused.Goals as goal
 
 pub returns : goal.returns

@@ -4,7 +4,6 @@ use mathlib.Core.Path.{sym, ◌∙◌}
 use native.Mathlib.Omega.{arith}
 use Rattle.writing.proofs.Putting.{room_first, room_second, room_as, put_length, put_then, put_as}
 use Rattle.writing.proofs.Decimal.{decimal_one, decimal_two, decimal_pair}
-use Prim.Native.Nat.{ℕ, ◌<◌}
 use Rattle.writing.proofs.+put_digits.Goals as goal
 
 pub put_byte-requires : goal.put_byte-requires

@@ -1,10 +1,6 @@
 -- `writing::put_bytes` meets its contract. The invariant: the bytes not yet taken, written from here on, make the whole word.
 -- The measure is what is left of the word.
-use native.Mathlib.Omega.{arith}
-use borrow.Author.Rules.{rules}
-use Prim.Native.Nat.{◌-◌}
-use lib.ListN.{length, drop}
-use Rattle.writing.proofs.Putting.{Leads, leads_start, leads_room, leads_turn, leads_done, bytes_turn, bytes_done}
+use Rattle.writing.proofs.Putting.{leads_start, leads_room, leads_turn, leads_done, bytes_turn, bytes_done}
 use Rattle.writing.proofs.put_bytes.Goals as goal
 
 pub loop-i-init : goal.loop-i-init

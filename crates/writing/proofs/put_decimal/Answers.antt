@@ -1,7 +1,5 @@
 -- `writing::put_decimal` meets its contract: a number below 10 is its own digit.
 use mathlib.Core.Path.{sym}
-use native.Mathlib.Omega.{arith}
-use borrow.Author.Rules.{rules}
 use Rattle.writing.proofs.Putting.{room_as, put_length, put_as}
 use Rattle.writing.proofs.Decimal.{decimal_one}
 use Rattle.writing.proofs.put_decimal.Goals as goal

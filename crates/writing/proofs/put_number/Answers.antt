@@ -1,6 +1,5 @@
 -- `writing::put_number` meets its contract: the space, then the number.
 use Rattle.writing.proofs.Putting.{put_then}
-use borrow.Author.Rules.{rules}
 use Rattle.writing.proofs.put_number.Goals as goal
 
 pub returns : goal.returns

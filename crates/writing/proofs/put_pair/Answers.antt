@@ -1,6 +1,5 @@
 -- `writing::put_pair` meets its contract: one digit, then the other.
 use Rattle.writing.proofs.Putting.{put_then}
-use borrow.Author.Rules.{rules}
 use Rattle.writing.proofs.put_pair.Goals as goal
 
 pub returns : goal.returns

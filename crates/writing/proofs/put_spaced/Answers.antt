@@ -1,12 +1,7 @@
 -- `writing::put_spaced` meets its contract. The invariant: the numbers not yet taken, written from here on, make the whole text.
 -- The measure is how many are left.
 use mathlib.Core.Path.{refl}
-use native.Mathlib.Omega.{arith}
-use borrow.Author.Rules.{rules}
-use Prim.Native.Nat.{◌-◌}
-use lib.ListN.{length, drop}
-use Rattle.rules.specs.Printout.{spaced}
-use Rattle.writing.proofs.Putting.{Leads, leads_start, leads_room, leads_turn, leads_done}
+use Rattle.writing.proofs.Putting.{leads_start, leads_room, leads_turn, leads_done}
 use Rattle.writing.proofs.Spaced.{spaced_turn, spaced_done}
 use Rattle.writing.proofs.put_spaced.Goals as goal
 

@@ -1,6 +1,5 @@
 -- `writing::put_word_line` meets its contract: the word, the numbers, the line's end, one after the other.
 use Rattle.writing.proofs.Putting.{room_first, room_second, put_then}
-use borrow.Author.Rules.{rules}
 use Rattle.writing.proofs.put_word_line.Goals as goal
 
 pub put_bytes-first-requires : goal.put_bytes-first-requires
