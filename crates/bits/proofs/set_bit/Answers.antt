@@ -7,6 +7,7 @@ use lib.Bits.{bit_or}
 use lib.Pow.{shl_exact}
 use lib.ListN.{get_or, set}
 use Rattle.rules.specs.Lent.{with_bit}
+use lib.Dec.{lit<}
 use Rattle.bits.proofs.set_bit.Goals as goal
 
 pub returns : goal.returns

@@ -1,5 +1,5 @@
 -- `brief::play_brief` meets its contract.
-use mathlib.Core.Path.{subst}
+use mathlib.Core.Path.{subst, subst⁻¹}
 use Rattle.rules.specs.declared.Pointer.{Pointer}
 use Rattle.keep.specs.Kept.{Inside}
 use Rattle.brief.specs.Briefly.{Briefly}

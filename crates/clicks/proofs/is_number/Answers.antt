@@ -1,4 +1,5 @@
 -- `is_number`: no 0, and no mine.
+use mathlib.Core.Bool.{false≢true, true≢false}
 use Rattle.clicks.proofs.is_number.Goals as goal
 
 pub returns-then-face-eq0 : goal.returns-then-face-eq0

@@ -1,5 +1,5 @@
 -- `flagging::all_closed` meets its contract: the remainder is tested at negative, zero and positive.
-use mathlib.Core.Path.{◌∙◌, sym, ap}
+use mathlib.Core.Path.{◌∙◌, sym, ap, subst⁻¹}
 use Prim.Native.Nat.{◌<◌}
 use lib.IntN.{ℤ}
 use lib.Signed.{mag}

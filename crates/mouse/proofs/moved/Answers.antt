@@ -3,6 +3,7 @@ use Prim.Native.Nat.{ℕ, ◌<◌}
 use borrow.Author.Rules.{rules}
 use Rattle.rules.specs.Mouse.{moved}
 use Rattle.mouse.proofs.Bytes.{mouse_small}
+use mathlib.Core.Path.{subst⁻¹}
 use Rattle.mouse.proofs.moved.Goals as goal
 
 pub next_mouse-n-requires : goal.next_mouse-n-requires
