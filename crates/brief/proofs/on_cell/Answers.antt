@@ -9,7 +9,7 @@ pub button-requires : goal.button-requires
 button-requires c = record { lawful_at = c.requires.lawful_at; inside = c.requires.inside; code_bound = button_code (is_playing c.args.p.game) c.args.code (sym c.is_button.ensures ∙ c.if-is_button.true) }
 
 pub returns-then-is_button : goal.returns-then-is_button
-returns-then-is_button c = let a = c.args in button_briefly a.mines.now a.code (Cell a.row a.column) a.p a.shown.now a.bits.now c.requires.events_bound (sym c.is_button.ensures ∙ c.if-is_button.true) c.button.result c.button.new.1.1.1.1.1.0 c.button.new.1.1.1.1.1.1.0 c.button.ensures
+returns-then-is_button c = let a = c.args in button_briefly a.mines.now a.code (Cell a.row a.column) a.p a.shown.now a.bits.now c.requires.events_bound (sym c.is_button.ensures ∙ c.if-is_button.true) c.button.result c.button.new.shown c.button.new.bits c.button.ensures
 
 pub returns-then-code-eq4 : goal.returns-then-code-eq4
 returns-then-code-eq4 c = let a = c.args in move_steps a.mines.now a.code (Cell a.row a.column) a.p a.shown.now a.bits.now c.requires.events_bound c.if-code-eq4.true

@@ -14,7 +14,7 @@ pub overflow_sub-n : goal.overflow_sub-n
 overflow_sub-n c = c.requires.le_right c.if-m-eq5.true
 
 pub chord_at-requires-then-m-eq5 : goal.chord_at-requires-then-m-eq5
-chord_at-requires-then-m-eq5 c = let whole = rw c.with_right-q.ensures (able_less c.args.p c.requires.able_at, c.requires.inside) in record { able_at = whole.0; inside = whole.1 }
+chord_at-requires-then-m-eq5 c = record { able_at = rw c.with_right-q.ensures (able_less c.args.p c.requires.able_at); inside = rw c.with_right-q.ensures c.requires.inside }
 
 pub returns-then-m-eq5 : goal.returns-then-m-eq5
 returns-then-m-eq5 c = leaves_by c.chord_at-then-m-eq5.ensures (chord_from_not _ c.args.x c.args.p _ _ _ _ c.if-m-eq4.false c.if-m-eq5.true c.with_right-q.ensures)

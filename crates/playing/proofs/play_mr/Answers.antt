@@ -4,7 +4,7 @@ use Rattle.playing.proofs.Cases.{play_mr_chord}
 use Rattle.playing.proofs.play_mr.Goals as goal
 
 pub chord_at-requires : goal.chord_at-requires
-chord_at-requires c = let whole = rw c.with_middle-q.ensures ((c.requires.able_at, c.requires.inside)) in record { able_at = whole.0; inside = whole.1 }
+chord_at-requires c = record { able_at = rw c.with_middle-q.ensures c.requires.able_at; inside = rw c.with_middle-q.ensures c.requires.inside }
 
 pub returns : goal.returns
 returns c = leaves_by c.chord_at.ensures (play_mr_chord _ c.args.x c.args.p _ _ _ c.with_middle-q.ensures)

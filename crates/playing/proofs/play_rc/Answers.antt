@@ -14,7 +14,7 @@ pub returns-then-v-ge10 : goal.returns-then-v-ge10
 returns-then-v-ge10 c = leaves_by c.right_at.ensures (play_rc_flag _ c.args.x c.args.p _ _ _ _ c.mouse_number-m.ensures _ c.if-m-ne0.false (c.seen_at-v.ensures _) c.if-v-ge10.true c.moved-q-then-v-ge10.ensures)
 
 pub right_at-requires-2 : goal.right_at-requires-2
-right_at-requires-2 c = let whole = rw c.with_mouse-q.ensures ((c.requires.able_at, c.requires.inside)) in record { able_at = whole.0; inside = whole.1 }
+right_at-requires-2 c = record { able_at = rw c.with_mouse-q.ensures c.requires.able_at; inside = rw c.with_mouse-q.ensures c.requires.inside }
 
 pub returns : goal.returns
 returns c = leaves_by c.right_at-2.ensures (play_rc_none _ c.args.x c.args.p _ _ _ _ c.mouse_number-m.ensures _ c.if-m-ne0.false (c.seen_at-v.ensures _) c.if-v-ge10.false c.with_mouse-q.ensures)

@@ -8,7 +8,7 @@ pub bounds-shown-i : goal.bounds-shown-i
 bounds-shown-i c = rw c.requires.able_at.laid.fits.board c.requires.i_bound
 
 pub right_click-requires : goal.right_click-requires
-right_click-requires c = let whole = rw c.with_preflags-q.ensures (c.requires.able_at, c.requires.i_bound) in record { able_at = whole.0; cell_bound = whole.1 }
+right_click-requires c = record { able_at = rw c.with_preflags-q.ensures c.requires.able_at; cell_bound = rw c.with_preflags-q.ensures c.requires.i_bound }
 
 pub returns-then-v-eq10 : goal.returns-then-v-eq10
 returns-then-v-eq10 c = leaves_by c.right_click.ensures (pre_cell_more _ c.args.i c.args.p _ _ _ c.if-v-eq10.true c.with_preflags-q.ensures)
@@ -23,7 +23,7 @@ pub overflow_sub-n : goal.overflow_sub-n
 overflow_sub-n c = c.requires.le_preflags c.if-v-eq11.true
 
 pub right_click-requires-then-v-eq11 : goal.right_click-requires-then-v-eq11
-right_click-requires-then-v-eq11 c = let whole = rw c.with_preflags-q-then-v-eq11.ensures (c.requires.able_at, c.requires.i_bound) in record { able_at = whole.0; cell_bound = whole.1 }
+right_click-requires-then-v-eq11 c = record { able_at = rw c.with_preflags-q-then-v-eq11.ensures c.requires.able_at; cell_bound = rw c.with_preflags-q-then-v-eq11.ensures c.requires.i_bound }
 
 pub returns-then-v-eq11 : goal.returns-then-v-eq11
 returns-then-v-eq11 c = leaves_by c.right_click-then-v-eq11.ensures (pre_cell_less _ c.args.i c.args.p _ _ _ c.if-v-eq10.false c.if-v-eq11.true (sym c.is_last.ensures ∙ c.if-is_last.false) c.with_preflags-q-then-v-eq11.ensures)

@@ -36,19 +36,19 @@ pub play_rest-requires : goal.play_rest-requires
 play_rest-requires c = let whole = parts_fit _ _ _ c.requires c.length_at-cells.ensures c.length_at-looks.ensures c.length_at-flags.ensures in record { mines_len = whole.0; bits_in_bounds = whole.1 }
 
 pub shape_of-bytes : goal.shape_of-bytes
-shape_of-bytes c = part_back _ c.args.bytes.now c.play_rest.new.1.0 c.length_at-cells.ensures c.requires.byte c.play_rest.auto.bytes
+shape_of-bytes c = part_back _ c.args.bytes.now c.play_rest.new.bytes c.length_at-cells.ensures c.requires.byte c.play_rest.auto.bytes
 
 pub shape_of-mines : goal.shape_of-mines
-shape_of-mines c = part_back _ c.args.mines.now c.play_rest.new.1.1.0 c.length_at-cells.ensures c.requires.mine c.play_rest.auto.mines
+shape_of-mines c = part_back _ c.args.mines.now c.play_rest.new.mines c.length_at-cells.ensures c.requires.mine c.play_rest.auto.mines
 
 pub shape_of-shown : goal.shape_of-shown
-shape_of-shown c = part_back _ c.args.shown.now c.play_rest.new.1.1.1.0 c.length_at-looks.ensures c.requires.cell c.play_rest.auto.shown
+shape_of-shown c = part_back _ c.args.shown.now c.play_rest.new.shown c.length_at-looks.ensures c.requires.cell c.play_rest.auto.shown
 
 pub shape_of-bits : goal.shape_of-bits
-shape_of-bits c = part_back _ c.args.bits.now c.play_rest.new.1.1.1.1.0 c.length_at-flags.ensures c.requires.flag c.play_rest.auto.bits
+shape_of-bits c = part_back _ c.args.bits.now c.play_rest.new.bits c.length_at-flags.ensures c.requires.flag c.play_rest.auto.bits
 
 pub shape_of-work : goal.shape_of-work
-shape_of-work c = part_back _ c.args.work.now c.play_rest.new.1.1.1.1.1.0 c.length_at-room.ensures c.requires.room c.play_rest.auto.work
+shape_of-work c = part_back _ c.args.work.now c.play_rest.new.work c.length_at-room.ensures c.requires.room c.play_rest.auto.work
 
 pub shape_of-out : goal.shape_of-out
 shape_of-out c = c.play_rest.auto.out
