@@ -1,5 +1,5 @@
-// The library for C and Rust firmware: board's calls and the book reader under plain names, over lent slices and a flat position whose states
-// are bytes. Every byte pattern is taken; a state byte that means nothing is refused with 264, after 20 to 263 (specs/Promises.antt).
+// The calls for C and Rust firmware, which console_c exports: board's calls and the book reader under plain names, over lent slices and a flat position
+// whose states are bytes. Every byte pattern is taken; a state byte that means nothing is refused with 264, after 20 to 263 (specs/Promises.antt).
 #![tactic(auto)]
 
 ghost use Rattle.std.specs.Prelude.{◌≡◌};
@@ -11,8 +11,7 @@ use flats::{FlatAnswer, FlatBook, FlatPosition, FlatValue};
 // ---- the board -------------------------------------------------------------------------------------------------------------------------
 
 // The board check: 20 to 24.
-#[unsafe(no_mangle)]
-pub extern "C" fn lm_check_board(rows: u8, columns: u8, mines: &[i8]) -> FlatValue
+pub fn lm_check_board(rows: u8, columns: u8, mines: &[i8]) -> FlatValue
     ensures { CheckBoardIs rows columns mines.now result }
 {
     let v = board::check_board(rows, columns, mines);
@@ -20,16 +19,14 @@ pub extern "C" fn lm_check_board(rows: u8, columns: u8, mines: &[i8]) -> FlatVal
 }
 
 // Numbering from a mine list: 20, 21, 42, 24.
-#[unsafe(no_mangle)]
-pub extern "C" fn lm_number_mines(rows: u8, columns: u8, list: &[u8], mines: &mut [i8]) -> u32
+pub fn lm_number_mines(rows: u8, columns: u8, list: &[u8], mines: &mut [i8]) -> u32
     ensures { NumberMinesIs rows columns list.now mines.old result mines.new }
 {
     flats::wide(board::number_mines(rows, columns, list, mines))
 }
 
 // The 3BV total: 20 to 24.
-#[unsafe(no_mangle)]
-pub extern "C" fn lm_total_3bv(rows: u8, columns: u8, mines: &[i8], work: &mut [u16]) -> FlatValue
+pub fn lm_total_3bv(rows: u8, columns: u8, mines: &[i8], work: &mut [u16]) -> FlatValue
     ensures { Total3bvIs rows columns mines.now work.old result work.new }
 {
     let v = board::total_3bv(rows, columns, mines, work);
@@ -39,8 +36,7 @@ pub extern "C" fn lm_total_3bv(rows: u8, columns: u8, mines: &[i8], work: &mut [
 // ---- setup and reset -------------------------------------------------------------------------------------------------------------------
 
 // Setup: 20 to 25, 45. Of the question byte it asks only whether it is 0.
-#[unsafe(no_mangle)]
-pub extern "C" fn lm_setup(
+pub fn lm_setup(
     rows: u8,
     columns: u8,
     mode: u8,
@@ -58,13 +54,7 @@ pub extern "C" fn lm_setup(
 }
 
 // Reset is setup with the position's own settings, 20 to 25, 45; it reads no other byte, but a refusal gives all of them back.
-#[unsafe(no_mangle)]
-pub extern "C" fn lm_reset(
-    f: FlatPosition,
-    mines: &[i8],
-    shown: &mut [u8],
-    bits: &mut [u8],
-) -> FlatAnswer
+pub fn lm_reset(f: FlatPosition, mines: &[i8], shown: &mut [u8], bits: &mut [u8]) -> FlatAnswer
     ensures { ResetIs f mines.now shown.old bits.old result shown.new bits.new }
 {
     let p = flats::position_in(f);
@@ -75,13 +65,7 @@ pub extern "C" fn lm_reset(
 // ---- the position ----------------------------------------------------------------------------------------------------------------------
 
 // The position check: 20 to 264.
-#[unsafe(no_mangle)]
-pub extern "C" fn lm_check_position(
-    f: FlatPosition,
-    mines: &[i8],
-    shown: &[u8],
-    bits: &[u8],
-) -> FlatValue
+pub fn lm_check_position(f: FlatPosition, mines: &[i8], shown: &[u8], bits: &[u8]) -> FlatValue
     ensures { CheckPositionIs f mines.now shown.now bits.now result }
 {
     let p = reads::position_for(f);
@@ -90,8 +74,7 @@ pub extern "C" fn lm_check_position(
 }
 
 // "replay" is 0 and "fail" 1: 20 to 264, 33, or Loss.
-#[unsafe(no_mangle)]
-pub extern "C" fn lm_step_game_state(
+pub fn lm_step_game_state(
     f: FlatPosition,
     mines: &[i8],
     shown: &[u8],
@@ -106,13 +89,7 @@ pub extern "C" fn lm_step_game_state(
 }
 
 // Both solved counts together: 20 to 264.
-#[unsafe(no_mangle)]
-pub extern "C" fn lm_get_bbbv_solved(
-    f: FlatPosition,
-    mines: &[i8],
-    shown: &[u8],
-    bits: &[u8],
-) -> FlatAnswer
+pub fn lm_get_bbbv_solved(f: FlatPosition, mines: &[i8], shown: &[u8], bits: &[u8]) -> FlatAnswer
     ensures { BbbvSolvedIs f mines.now shown.now bits.now result }
 {
     let p = reads::position_for(f);
@@ -121,8 +98,7 @@ pub extern "C" fn lm_get_bbbv_solved(
 }
 
 // Openings with a 0 not open, plus numbers without a 0 neighbour not open: 20 to 264.
-#[unsafe(no_mangle)]
-pub extern "C" fn lm_left_to_solve(
+pub fn lm_left_to_solve(
     f: FlatPosition,
     mines: &[i8],
     shown: &[u8],
@@ -139,8 +115,7 @@ pub extern "C" fn lm_left_to_solve(
 // ---- resolving, a step, and a row of events ----------------------------------------------------------------------------------------------
 
 // l, r or m into a plain code, which is the value: 20 to 31. It counts no event; m flips the middle flag.
-#[unsafe(no_mangle)]
-pub extern "C" fn lm_resolve(
+pub fn lm_resolve(
     f: FlatPosition,
     code: u8,
     row: u8,
@@ -157,8 +132,7 @@ pub extern "C" fn lm_resolve(
 }
 
 // A plain step tests all, 20 to 33.
-#[unsafe(no_mangle)]
-pub extern "C" fn lm_step(
+pub fn lm_step(
     f: FlatPosition,
     code: u8,
     row: u8,
@@ -176,8 +150,7 @@ pub extern "C" fn lm_step(
 }
 
 // A row of events as a book has them: 20 to 264 once, then up to the first refused event.
-#[unsafe(no_mangle)]
-pub extern "C" fn lm_step_flow(
+pub fn lm_step_flow(
     f: FlatPosition,
     events: &[u8],
     mines: &[i8],
@@ -195,8 +168,7 @@ pub extern "C" fn lm_step_flow(
 // ---- the book --------------------------------------------------------------------------------------------------------------------------
 
 // What a book says, or its first fault: 40 to 45, 20, 24, 25.
-#[unsafe(no_mangle)]
-pub extern "C" fn lm_read_book(s: &[u8]) -> FlatBook
+pub fn lm_read_book(s: &[u8]) -> FlatBook
     ensures { ReadBookIs s.now result }
 {
     let b = book::read_book(s);
