@@ -8,19 +8,19 @@ use mathlib.Core.Bool.{not}
 use Rattle.noflag_player.proofs.write_printout.Goals as goal
 
 pub returns-then-not-fits : goal.returns-then-not-fits
-returns-then-not-fits c = written_none _ _ _ c.fits.ensures (not-true _ (ap not c.if-not-fits.true))
+returns-then-not-fits g c = written_none _ _ _ c.fits.ensures (not-true _ (ap not c.if-not-fits.true))
 
 pub print_lent-n-requires : goal.print_lent-n-requires
-print_lent-n-requires c = rooms_enough c.mine_board-mines.result c.shown_board-shown.result c.flag_bits-bits.result c.work_room-work.result c.mine_board-mines.ensures c.shown_board-shown.ensures c.flag_bits-bits.ensures c.work_room-work.ensures (fits_means _ c.fits.ensures (not-false _ (ap not c.if-not-fits.false)))
+print_lent-n-requires g c = rooms_enough c.mine_board-mines.result c.shown_board-shown.result c.flag_bits-bits.result c.work_room-work.result c.mine_board-mines.ensures c.shown_board-shown.ensures c.flag_bits-bits.ensures c.work_room-work.ensures (fits_means _ c.fits.ensures (not-false _ (ap not c.if-not-fits.false)))
 
 pub slice_bounds-hand-end : goal.slice_bounds-hand-end
-slice_bounds-hand-end c = handed_fits _ _ _ c.fits.ensures (not-false _ (ap not c.if-not-fits.false)) c.print_lent-n.ensures
+slice_bounds-hand-end g c = handed_fits _ _ _ c.fits.ensures (not-false _ (ap not c.if-not-fits.false)) c.print_lent-n.ensures
 
 pub slice_bounds-hand-end-2 : goal.slice_bounds-hand-end-2
-slice_bounds-hand-end-2 c = sym (length-take-le _ _ (handed_fits _ _ _ c.fits.ensures (not-false _ (ap not c.if-not-fits.false)) c.print_lent-n.ensures))
+slice_bounds-hand-end-2 g c = sym (length-take-le _ _ (handed_fits _ _ _ c.fits.ensures (not-false _ (ap not c.if-not-fits.false)) c.print_lent-n.ensures))
 
 pub hand-requires : goal.hand-requires
-hand-requires c = handed_whole _ _ _ c.fits.ensures (not-false _ (ap not c.if-not-fits.false)) c.print_lent-n.ensures
+hand-requires g c = handed_whole _ _ _ c.fits.ensures (not-false _ (ap not c.if-not-fits.false)) c.print_lent-n.ensures
 
 pub returns : goal.returns
-returns c = written_all _ _ _ c.fits.ensures (not-false _ (ap not c.if-not-fits.false)) c.print_lent-n.ensures
+returns g c = written_all _ _ _ c.fits.ensures (not-false _ (ap not c.if-not-fits.false)) c.print_lent-n.ensures
