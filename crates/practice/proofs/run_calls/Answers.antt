@@ -19,8 +19,8 @@ slice_bounds-hand-end g c = sym (length-take-le _ _ (handed_fits c.line_room-out
 pub hand-requires : goal.hand-requires
 hand-requires g c = broken c.loop-at.invariant.1 (sym c.call_length-n.ensures.same ∙ c.if-n-eq0.true) (handed_whole c.line_room-out.ensures c.put_broken-long.ensures)
 
-pub run_call-score-requires : goal.run_call-score-requires
-run_call-score-requires g c = record { call_is = (c.call_length-n.ensures, c.if-n-eq0.false); reached = c.loop-at.invariant.1 }
+pub run_call-requires : goal.run_call-requires
+run_call-requires g c = record { call_is = (c.call_length-n.ensures, c.if-n-eq0.false); reached = c.loop-at.invariant.1 }
 
 pub overflow_add-at : goal.overflow_add-at
 overflow_add-at g c = omega (arith, c.call_length-n.ensures.within)
@@ -29,4 +29,4 @@ pub loop-at-smaller : goal.loop-at-smaller
 loop-at-smaller g c = omega (arith, c.call_length-n.ensures.within)
 
 pub loop-at-preserved : goal.loop-at-preserved
-loop-at-preserved g c = (omega arith, reached_next _ _ c.call_length-n.ensures c.if-n-eq0.false c.loop-at.invariant.1 c.run_call-score.ensures)
+loop-at-preserved g c = (omega arith, reached_next _ _ c.call_length-n.ensures c.if-n-eq0.false c.loop-at.invariant.1 c.in_ok-score.ensures)
