@@ -2,37 +2,45 @@
 // Of a longer input one byte more than any book has is read: what is written is that of the whole, by the law `prefix_claim`.
 #![tactic(auto)]
 
-ghost use Rattle.std.specs.Prelude.{◌≡◌, ◌<◌, ◌≤◌, length};
+ghost use Rattle.std.specs.Prelude.{◌≡◌, ◌<◌, ◌≤◌, length, OnOk, OnErr};
+ghost use Rattle.std.specs.Io.KnownBytes.{Appends};
 ghost use Rattle.rules.specs.Claims.{claim_text_of};
+ghost use Rattle.streams.specs.Streams.{AppendsPart};
 
-use libc::{STDIN_FILENO, STDOUT_FILENO};
+use std::io;
+use std::io::Write;
 
-// All that is ever handed to `io`: a claimed book, or the line of a refusal, whole.
-fn hand(s: &[u8], text: &[u8]) -> bool
+// All that is ever handed to `streams`: a claimed book, or the line of a refusal, whole.
+fn hand<W: Write>(to: &mut W, s: &[u8], text: &[u8]) -> io::Result<()>
     requires { text.now ≡ claim_text_of s.now }
+    ensures ok { OnOk result (Appends (W.contents to.old) (W.contents to.new) (claim_text_of s.now)) }
+    ensures err { OnErr result (AppendsPart (W.contents to.old) (W.contents to.new) (claim_text_of s.now)) }
 {
-    io::write_all(STDOUT_FILENO, text)
+    streams::write_all(to, text)
 }
 
-fn write_claimed(s: &[u8])
+fn write_claimed<W: Write>(to: &mut W, s: &[u8]) -> io::Result<()>
     requires { length s.now ≤ 28681 }
+    ensures ok { OnOk result (Appends (W.contents to.old) (W.contents to.new) (claim_text_of s.now)) }
+    ensures err { OnErr result (AppendsPart (W.contents to.old) (W.contents to.new) (claim_text_of s.now)) }
 {
     let c = checking::claim_book(s);
     let v = c.verdict;
     let mut out = claiming::claimed_buffer();
     if claims::number(v) != 0 {
         let n = verdicts::put_verdict(&mut out, 0, v);
-        hand(s, &out[..n]);
-        return;
+        return hand(to, s, &out[..n]);
     }
     let section = c.section;
     let first = writing::put_bytes(&mut out, 0, s);
     let end = writing::put_bytes(&mut out, first, &section);
-    hand(s, &out[..end]);
+    hand(to, s, &out[..end])
 }
 
-fn main() {
+fn main(rt: HostRuntime) -> io::Result<()> {
     let mut bytes = player::book_buffer();
-    let n = io::read_full(STDIN_FILENO, &mut bytes);
-    write_claimed(&bytes[..n]);
+    let mut from = rt.reader();
+    let n = streams::read_full(&mut from, &mut bytes)?;
+    let mut to = io::writer(&rt);
+    write_claimed(&mut to, &bytes[..n])
 }

@@ -2,11 +2,14 @@
 // It reads 1,048,576 bytes at most: of a longer input it says so, and nothing else.
 #![tactic(auto)]
 
-ghost use Rattle.std.specs.Prelude.{◌≡◌, ◌≤◌, length};
+ghost use Rattle.std.specs.Prelude.{◌≡◌, ◌≤◌, length, OnOk, OnErr};
+ghost use Rattle.std.specs.Io.KnownBytes.{Appends};
 ghost use Rattle.rules.specs.Picture.{rows_printed};
 ghost use Rattle.writing.specs.Put.{PutWithin};
+ghost use Rattle.streams.specs.Streams.{AppendsPart};
 
-use libc::{STDIN_FILENO, STDOUT_FILENO};
+use std::io;
+use std::io::Write;
 
 // A picture's rows, or its refusal, from the front of `out`; the answer is how many bytes it has.
 fn print_rows(s: &[u8], cells: &mut [u8], out: &mut [u8]) -> usize
@@ -24,11 +27,13 @@ fn print_rows(s: &[u8], cells: &mut [u8], out: &mut [u8]) -> usize
     text::put_rows(&mut *out, 0, rows, columns, &cells[..n])
 }
 
-// All that is ever handed to `io` of a picture.
-fn hand(s: &[u8], text: &[u8]) -> bool
+// All that is ever handed to `streams` of a picture.
+fn hand<W: Write>(to: &mut W, s: &[u8], text: &[u8]) -> io::Result<()>
     requires { text.now ≡ rows_printed s.now }
+    ensures ok { OnOk result (Appends (W.contents to.old) (W.contents to.new) (rows_printed s.now)) }
+    ensures err { OnErr result (AppendsPart (W.contents to.old) (W.contents to.new) (rows_printed s.now)) }
 {
-    io::write_all(STDOUT_FILENO, text)
+    streams::write_all(to, text)
 }
 
 fn cell_room() -> [u8; 2048]
@@ -44,11 +49,14 @@ fn text_room() -> [u8; 8192]
     [0; 8192]
 }
 
-fn write_rows(s: &[u8]) {
+fn write_rows<W: Write>(to: &mut W, s: &[u8]) -> io::Result<()>
+    ensures ok { OnOk result (Appends (W.contents to.old) (W.contents to.new) (rows_printed s.now)) }
+    ensures err { OnErr result (AppendsPart (W.contents to.old) (W.contents to.new) (rows_printed s.now)) }
+{
     let mut cells = cell_room();
     let mut out = text_room();
     let n = print_rows(s, &mut cells, &mut out);
-    hand(s, &out[..n]);
+    hand(to, s, &out[..n])
 }
 
 // One byte more than is read as a picture.
@@ -58,15 +66,13 @@ fn picture_buffer() -> [u8; 1048577]
     [0; 1048577]
 }
 
-fn main() {
+fn main(rt: HostRuntime) -> io::Result<()> {
     let mut bytes = picture_buffer();
-    let n = io::read_full(STDIN_FILENO, &mut bytes);
+    let mut from = rt.reader();
+    let n = streams::read_full(&mut from, &mut bytes)?;
+    let mut to = io::writer(&rt);
     if 1048576 < n {
-        io::write_all(
-            STDOUT_FILENO,
-            b"longer than the 1048576 bytes that are read\n",
-        );
-        return;
+        return streams::write_all(&mut to, b"longer than the 1048576 bytes that are read\n");
     }
-    write_rows(&bytes[..n]);
+    write_rows(&mut to, &bytes[..n])
 }

@@ -1,5 +1,5 @@
 -- What is lent to print a book of the class, and the text that is handed over; and one outcome for every input. Assumes nothing.
-use mathlib.Core.Path.{◌≡◌, refl, sym, ap, ap₂, ◌∙◌, subst⁻¹}
+use mathlib.Core.Path.{◌≡◌, refl, sym, ap, ap₂, ◌∙◌, subst⁻¹, subst}
 use mathlib.Core.Bool.{Bool, true, false}
 use mathlib.Core.List.{List}
 use Prim.Native.Nat.{ℕ, ◌<◌, ◌≤◌}
@@ -74,6 +74,10 @@ module _ (s out : List ℕ) (t : Bool) (e : t ≡ text_fits (length s) (length o
     pub written_all : WritePrintoutIs s out r out'
     unfolding written_of
     written_all = ap₂ written size whole ∙ rw (sym e ∙ f)
+
+    -- a write that failed leaves it whole in its room
+    pub written_left : WritePrintoutIs s out (length (class_printout_of s)) out'
+    written_left = subst (λ (n : ℕ). WritePrintoutIs s out n out') size written_all
 
     -- it fits its room, and it is the printout
     pub handed_fits : r ≤ length out'

@@ -2,14 +2,18 @@
 // then that one's line. The contracts cite specs/Printing.antt and rules' specs/Noflag.antt.
 #![tactic(auto)]
 
-ghost use Rattle.std.specs.Prelude.{◌≡◌, ◌%◌, ◌≤◌, length};
+ghost use Rattle.std.specs.Prelude.{◌≡◌, ◌%◌, ◌≤◌, length, take, IfOk, OnOk, OnErr};
+ghost use Rattle.std.specs.Io.KnownBytes.{Appends};
 ghost use Rattle.rules.specs.Noflag.{class_book_of, class_printout_of};
 ghost use Rattle.printing.specs.Boards.{Fit};
 ghost use Rattle.player.specs.Rooms.{text_fits, Enough};
 ghost use Rattle.noflag_player.specs.Printing.{Free, BarredFits, BarredPut, TextPut, WritePrintoutIs};
+ghost use Rattle.streams.specs.Streams.{AppendsPart};
 
 use games::Told;
 use rules::{Book, Played};
+use std::io;
+use std::io::Write;
 
 // The bytes of a row of whole events before its first forbidden one.
 fn free(events: &[u8]) -> usize
@@ -120,26 +124,31 @@ fn fits(bytes: usize, out: usize) -> bool
     (bytes < 4294967296) & (172184 <= out)
 }
 
-// All that is ever handed to `io`: a printout, whole.
-fn hand(fd: i32, s: &[u8], text: &[u8]) -> bool
+// All that is ever handed to `streams`: a printout, whole.
+fn hand<W: Write>(to: &mut W, s: &[u8], text: &[u8]) -> io::Result<()>
     requires { text.now ≡ class_printout_of s.now }
+    ensures ok { OnOk result (Appends (W.contents to.old) (W.contents to.new) (class_printout_of s.now)) }
+    ensures err { OnErr result (AppendsPart (W.contents to.old) (W.contents to.new) (class_printout_of s.now)) }
 {
-    io::write_all(fd, text)
+    streams::write_all(to, text)
 }
 
-// The printout of a byte string, made in `out` and handed over to be written to an open file; the answer is how many bytes it has, or 0 where `out` is
-// too small.
-pub fn write_printout(fd: i32, s: &[u8], out: &mut [u8]) -> usize
-    ensures { WritePrintoutIs s.now out.old result out.new }
+// The printout of a byte string, made in `out` and handed over to be written; the answer is how many bytes it has, or 0 where `out` is too small, and then
+// nothing is written. A write that fails is the only error: `out` then holds the printout, and a front of it was written.
+pub fn write_printout<W: Write>(to: &mut W, s: &[u8], out: &mut [u8]) -> io::Result<usize>
+    ensures ok { IfOk result (λ n. WritePrintoutIs s.now out.old n out.new) }
+    ensures handed { IfOk result (λ n. Appends (W.contents to.old) (W.contents to.new) (take n out.new)) }
+    ensures err { OnErr result (WritePrintoutIs s.now out.old (length (class_printout_of s.now)) out.new) }
+    ensures err_handed { OnErr result (AppendsPart (W.contents to.old) (W.contents to.new) (class_printout_of s.now)) }
 {
     if !fits(s.len(), out.len()) {
-        return 0;
+        return Ok(0);
     }
     let mut mines = player::mine_board();
     let mut shown = player::shown_board();
     let mut bits = player::flag_bits();
     let mut work = player::work_room();
     let n = print_lent(s, &mut mines, &mut shown, &mut bits, &mut work, &mut *out);
-    hand(fd, s, &out[..n]);
-    n
+    hand(to, s, &out[..n])?;
+    Ok(n)
 }

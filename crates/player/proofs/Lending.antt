@@ -1,5 +1,5 @@
 -- What is lent, and what the calls leave there: enough or not, a book refused or played, and the text that is handed over. And one outcome for every input.
-use mathlib.Core.Path.{◌≡◌, ◌∙◌, ap, ap₂, sym, refl}
+use mathlib.Core.Path.{◌≡◌, ◌∙◌, ap, ap₂, sym, subst, refl}
 use mathlib.Core.Bool.{Bool, true, false}
 use mathlib.Core.List.{List, [], ◌∷◌, ◌++◌}
 use Prim.Native.Nat.{ℕ, ◌+◌, ◌/◌, ◌<◌, ◌≤◌}
@@ -151,6 +151,10 @@ module _ (s out : List ℕ) {out' : List ℕ} {r : ℕ} (h : WritePrintoutIs s o
   handed_whole z =
       let w = written_whole z in
       ap₂ (λ (n : ℕ) (l : List ℕ). take n l) w.0 w.1 ∙ take_at (printout_of s) (drop (length (printout_of s)) out) (length (printout_of s)) refl
+
+  -- a write that failed leaves it whole in its room
+  pub written_left : (r ≡ 0 → ⊥) → WritePrintoutIs s out (length (printout_of s)) out'
+  written_left z = subst (λ (n : ℕ). WritePrintoutIs s out n out') (written_whole z).0 h
 
 -- no printout is empty, so the answer 0 says that nothing was printed
 pub printout_some : (s : List ℕ) → 0 < length (printout_of s)

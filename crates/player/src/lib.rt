@@ -1,11 +1,16 @@
-// A book read, played and printed, or the one line of a refused book, in lent room or on an open file.
+// A book read, played and printed, or the one line of a refused book, in lent room or at a writer.
 // The contracts cite specs/Rooms.antt: what is lent, and what stands there afterwards.
 #![tactic(auto)]
 
-ghost use Rattle.std.specs.Prelude.{◌≡◌, length};
+ghost use Rattle.std.specs.Prelude.{◌≡◌, length, take, IfOk, OnOk, OnErr};
+ghost use Rattle.std.specs.Io.KnownBytes.{Appends};
 ghost use Rattle.rules.specs.Book.{book_of};
 ghost use Rattle.rules.specs.Printout.{printout_of};
 ghost use Rattle.player.specs.Rooms.{enough, Enough, printed, printed_by, PrintBookIs, WritePrintoutIs};
+ghost use Rattle.streams.specs.Streams.{AppendsPart};
+
+use std::io;
+use std::io::Write;
 
 // Enough is lent for every book.
 fn enough(bytes: usize, mines: usize, shown: usize, bits: usize, work: usize, out: usize) -> bool
@@ -107,16 +112,22 @@ pub fn text_room() -> [u8; 172184]
     [0; 172184]
 }
 
-// All that is ever handed to `io`: a printout, whole. No contract of the kit can say which bytes a write takes, so this one asks it of what it is handed.
-fn hand(fd: i32, s: &[u8], text: &[u8]) -> bool
+// All that is ever handed to `streams`: a printout, whole. No contract can say which bytes reach the system, so this one asks it of what it is handed.
+fn hand<W: Write>(to: &mut W, s: &[u8], text: &[u8]) -> io::Result<()>
     requires { text.now ≡ printout_of s.now }
+    ensures ok { OnOk result (Appends (W.contents to.old) (W.contents to.new) (printout_of s.now)) }
+    ensures err { OnErr result (AppendsPart (W.contents to.old) (W.contents to.new) (printout_of s.now)) }
 {
-    io::write_all(fd, text)
+    streams::write_all(to, text)
 }
 
-// The printout of a byte string, made in `out` and handed over to be written to an open file; the answer is how many bytes it has, or 0 where `out` is too small.
-pub fn write_printout(fd: i32, s: &[u8], out: &mut [u8]) -> usize
-    ensures { WritePrintoutIs s.now out.old result out.new }
+// The printout of a byte string, made in `out` and handed over to be written; the answer is how many bytes it has, or 0 where `out` is too small, and then
+// nothing is written. A write that fails is the only error: `out` then holds the printout, and a front of it was written.
+pub fn write_printout<W: Write>(to: &mut W, s: &[u8], out: &mut [u8]) -> io::Result<usize>
+    ensures ok { IfOk result (λ n. WritePrintoutIs s.now out.old n out.new) }
+    ensures handed { IfOk result (λ n. Appends (W.contents to.old) (W.contents to.new) (take n out.new)) }
+    ensures err { OnErr result (WritePrintoutIs s.now out.old (length (printout_of s.now)) out.new) }
+    ensures err_handed { OnErr result (AppendsPart (W.contents to.old) (W.contents to.new) (printout_of s.now)) }
 {
     let mut mines = mine_board();
     let mut shown = shown_board();
@@ -124,8 +135,8 @@ pub fn write_printout(fd: i32, s: &[u8], out: &mut [u8]) -> usize
     let mut work = work_room();
     let n = print_book(s, &mut mines, &mut shown, &mut bits, &mut work, &mut *out);
     if n == 0 {
-        return n;
+        return Ok(n);
     }
-    hand(fd, s, &out[..n]);
-    n
+    hand(to, s, &out[..n])?;
+    Ok(n)
 }

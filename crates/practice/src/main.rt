@@ -2,14 +2,17 @@
 // output. specs/Practice.antt has the bytes and the lines. It reads 65,536 bytes at most; the rest of a longer input is not read.
 #![tactic(auto)]
 
-ghost use Rattle.std.specs.Prelude.{◌≡◌, ◌∷◌, [], ◌++◌, ◌+◌, ◌<◌, ◌≤◌, length};
+ghost use Rattle.std.specs.Prelude.{◌≡◌, ◌∷◌, [], ◌++◌, ◌+◌, ◌<◌, ◌≤◌, length, IfOk, OnOk, OnErr};
+ghost use Rattle.std.specs.Io.KnownBytes.{Appends};
 ghost use Rattle.rules.specs.Printout.{spaced};
 ghost use Rattle.writing.specs.Put.{PutWithin};
 ghost use Rattle.practice.specs.Practice.{two_at, score_at, Reached, broken_line, Line};
 ghost use Rattle.practice.specs.Told.{CallIs, Whole, TellsQuestion, TellsReport, Tells};
+ghost use Rattle.streams.specs.Streams.{AppendsPart};
 
-use libc::{STDIN_FILENO, STDOUT_FILENO};
 use rules::{Place, Score};
+use std::io;
+use std::io::Write;
 
 // The score after a call, and how many bytes its line has.
 #[derive(Clone, Copy)]
@@ -106,11 +109,13 @@ fn tell_call(s: &[u8], at: usize, n: usize, score: Score, out: &mut [u8]) -> Tol
 
 // ---- what is written -------------------------------------------------------------------------------------------------------------------
 
-// All that is ever handed to `io`: the line of the call at a place, or of broken bytes.
-fn hand(s: &[u8], at: usize, text: &[u8]) -> bool
+// All that is ever handed to `streams`: the line of the call at a place, or of broken bytes.
+fn hand<W: Write>(to: &mut W, s: &[u8], at: usize, text: &[u8]) -> io::Result<()>
     requires { Line s.now text.now at }
+    ensures ok { OnOk result (Appends (W.contents to.old) (W.contents to.new) text.now) }
+    ensures err { OnErr result (AppendsPart (W.contents to.old) (W.contents to.new) text.now) }
 {
-    io::write_all(STDOUT_FILENO, text)
+    streams::write_all(to, text)
 }
 
 fn line_room() -> [u8; 74]
@@ -129,20 +134,20 @@ fn put_broken(out: &mut [u8], at: usize) -> usize
 }
 
 // The call at a place, and its line written; the answer is the score after it.
-fn run_call(s: &[u8], at: usize, n: usize, score: Score) -> Score
+fn run_call<W: Write>(to: &mut W, s: &[u8], at: usize, n: usize, score: Score) -> io::Result<Score>
     requires call_is { CallIs s.now at n × (n ≡ 0 → ⊥) }
     requires reached { Reached s.now at score }
-    ensures { result ≡ score_at s.now at score }
+    ensures { IfOk result (λ after. after ≡ score_at s.now at score) }
 {
     let mut out = line_room();
     let told = tell_call(s, at, n, score, &mut out);
     let long = told.long;
-    hand(s, at, &out[..long]);
-    told.score
+    hand(to, s, at, &out[..long])?;
+    Ok(told.score)
 }
 
 // The calls from a score on, to the end or to broken bytes.
-fn run_calls(s: &[u8], first: Score)
+fn run_calls<W: Write>(to: &mut W, s: &[u8], first: Score) -> io::Result<()>
     requires in_bounds { (4 ≤ length s.now) × (length s.now ≤ 65536) }
     requires reached { Reached s.now 4 first }
 {
@@ -153,23 +158,22 @@ fn run_calls(s: &[u8], first: Score)
         if n == 0 {
             let mut out = line_room();
             let long = put_broken(&mut out, at);
-            hand(s, at, &out[..long]);
-            return;
+            return hand(to, s, at, &out[..long]);
         }
-        score = run_call(s, at, n, score);
+        score = run_call(to, s, at, n, score)?;
         at += n;
     }
+    Ok(())
 }
 
 // All of a practice.
-fn run(s: &[u8])
+fn run<W: Write>(to: &mut W, s: &[u8]) -> io::Result<()>
     requires { length s.now ≤ 65536 }
 {
     if s.len() < 4 {
         let mut out = line_room();
         let long = put_broken(&mut out, 0);
-        hand(s, 0, &out[..long]);
-        return;
+        return hand(to, s, 0, &out[..long]);
     }
     let asked = two_at(s, 0);
     let followed = two_at(s, 2);
@@ -178,11 +182,13 @@ fn run(s: &[u8])
         followed: followed as u16,
         hint: Place::Nowhere,
     };
-    run_calls(s, start);
+    run_calls(to, s, start)
 }
 
-fn main() {
-    let mut bytes = io::large_buffer();
-    let n = io::read_full(STDIN_FILENO, &mut bytes);
-    run(&bytes[..n]);
+fn main(rt: HostRuntime) -> io::Result<()> {
+    let mut bytes = streams::large_buffer();
+    let mut from = rt.reader();
+    let n = streams::read_full(&mut from, &mut bytes)?;
+    let mut to = io::writer(&rt);
+    run(&mut to, &bytes[..n])
 }

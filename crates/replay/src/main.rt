@@ -2,11 +2,14 @@
 // the printout is that of the whole, by book's law `prefix_printout`.
 #![tactic(auto)]
 
-use libc::{STDIN_FILENO, STDOUT_FILENO};
+use std::io;
 
-fn main() {
+fn main(rt: HostRuntime) -> io::Result<()> {
     let mut bytes = player::book_buffer();
-    let n = io::read_full(STDIN_FILENO, &mut bytes);
+    let mut from = rt.reader();
+    let n = streams::read_full(&mut from, &mut bytes)?;
     let mut out = player::text_room();
-    player::write_printout(STDOUT_FILENO, &bytes[..n], &mut out);
+    let mut to = io::writer(&rt);
+    player::write_printout(&mut to, &bytes[..n], &mut out)?;
+    Ok(())
 }

@@ -2,15 +2,19 @@
 // word `reset`, it writes what the slider answers. Of a longer input one byte more than any book has is read.
 #![tactic(auto)]
 
-ghost use Rattle.std.specs.Prelude.{◌≡◌, ◌+◌, ◌*◌, ◌<◌, ◌≤◌, length};
+ghost use Rattle.std.specs.Prelude.{◌≡◌, ◌+◌, ◌*◌, ◌<◌, ◌≤◌, length, OnOk, OnErr};
+ghost use Rattle.std.specs.Io.KnownBytes.{Appends};
 ghost use Rattle.rules.specs.Book.{book_of};
 ghost use Rattle.rules.specs.Slides.{drag_text};
 ghost use Rattle.writing.specs.Put.{PutWithin};
 ghost use Rattle.scrub.specs.Told.{told, told_numbers, Tellable};
+ghost use Rattle.streams.specs.Streams.{AppendsPart};
 
-use libc::{STDERR_FILENO, STDIN_FILENO, STDOUT_FILENO};
 use rules::{Book, Settings};
 use slider::{Drag, Slider};
+use std::env::Env;
+use std::io;
+use std::io::Write;
 
 // ---- the text --------------------------------------------------------------------------------------------------------------------------
 
@@ -58,11 +62,13 @@ fn put_drag(out: &mut [u8], g: Settings, o: Drag, shown: &[u8]) -> usize
     text::put_rows(&mut *out, first, rows, columns, shown)
 }
 
-// All that is ever handed to `io` of a drag: its text.
-fn hand(g: Settings, o: Drag, shown: &[u8], text: &[u8]) -> bool
+// All that is ever handed to `streams` of a drag: its text.
+fn hand<W: Write>(to: &mut W, g: Settings, o: Drag, shown: &[u8], text: &[u8]) -> io::Result<()>
     requires { text.now ≡ drag_text g (told o shown.now) }
+    ensures ok { OnOk result (Appends (W.contents to.old) (W.contents to.new) (drag_text g (told o shown.now))) }
+    ensures err { OnErr result (AppendsPart (W.contents to.old) (W.contents to.new) (drag_text g (told o shown.now))) }
 {
-    io::write_all(STDOUT_FILENO, text)
+    streams::write_all(to, text)
 }
 
 // A line of at most 176 bytes, and 2,048 cells.
@@ -72,12 +78,14 @@ fn text_room() -> [u8; 8368]
     [0; 8368]
 }
 
-fn tell(g: Settings, o: Drag, shown: &[u8])
+fn tell<W: Write>(to: &mut W, g: Settings, o: Drag, shown: &[u8]) -> io::Result<()>
     requires { Tellable g o shown.now 8368 }
+    ensures ok { OnOk result (Appends (W.contents to.old) (W.contents to.new) (drag_text g (told o shown.now))) }
+    ensures err { OnErr result (AppendsPart (W.contents to.old) (W.contents to.new) (drag_text g (told o shown.now))) }
 {
     let mut out = text_room();
     let n = put_drag(&mut out, g, o, shown);
-    hand(g, o, shown, &out[..n]);
+    hand(to, g, o, shown, &out[..n])
 }
 
 // ---- the words -------------------------------------------------------------------------------------------------------------------------
@@ -131,9 +139,9 @@ fn word_of(s: &[u8]) -> Word {
 }
 
 // The argument at a place; one that is missing or too long is another word.
-fn argument(i: usize) -> Word {
+fn argument<R: Env>(rt: &R, i: usize) -> Word {
     let mut text = [0u8; 16];
-    let n = os::arg(i, &mut text);
+    let n = streams::arg(rt, i, &mut text);
     word_of(&text[..n])
 }
 
@@ -159,7 +167,8 @@ fn at_most(n: usize) -> usize
 }
 
 // One drag on boards of the book's size, told; the slider after it.
-fn drag_on(
+fn drag_on<W: Write>(
+    to: &mut W,
     slider: Slider,
     s: &[u8],
     b: Book,
@@ -170,7 +179,7 @@ fn drag_on(
     bits: &mut [u8],
     work: &mut [u16],
     room: &mut [u8],
-) -> Slider
+) -> io::Result<Slider>
     requires b_value { (b ≡ book_of s.now) × (b.number ≡ 0) }
     requires columns_in_bounds { b.settings.rows * b.settings.columns ≤ length shown.old }
 {
@@ -186,12 +195,20 @@ fn drag_on(
         room,
     );
     let g = b.settings;
-    tell(g, o, &*shown);
-    o.slider
+    tell(to, g, o, &*shown)?;
+    Ok(o.slider)
 }
 
 // One drag, told; the slider after it.
-fn go(slider: Slider, s: &[u8], b: Book, n: u32, k: u32, room: &mut [u8]) -> Slider
+fn go<W: Write>(
+    to: &mut W,
+    slider: Slider,
+    s: &[u8],
+    b: Book,
+    n: u32,
+    k: u32,
+    room: &mut [u8],
+) -> io::Result<Slider>
     requires { (b ≡ book_of s.now) × (b.number ≡ 0) }
 {
     let mut mines = player::mine_board();
@@ -201,6 +218,7 @@ fn go(slider: Slider, s: &[u8], b: Book, n: u32, k: u32, room: &mut [u8]) -> Sli
     let cells = boards::cell_count(b.settings.rows, b.settings.columns);
     let bytes = (cells + 7) / 8;
     drag_on(
+        to,
         slider,
         s,
         b,
@@ -222,93 +240,107 @@ struct Turn {
 }
 
 // One word: a drag, or a reset.
-fn take_word(slider: Slider, i: usize, s: &[u8], b: Book, k: u32, room: &mut [u8]) -> Turn
+fn take_word<R: Env + Eprint, W: Write>(
+    rt: &R,
+    to: &mut W,
+    slider: Slider,
+    i: usize,
+    s: &[u8],
+    b: Book,
+    k: u32,
+    room: &mut [u8],
+) -> io::Result<Turn>
     requires { (b ≡ book_of s.now) × (b.number ≡ 0) }
 {
-    match argument(i) {
+    match argument(rt, i) {
         Word::Number(n) => {
-            let after = go(slider, s, b, n, k, &mut *room);
-            Turn {
+            let after = go(to, slider, s, b, n, k, &mut *room)?;
+            Ok(Turn {
                 slider: after,
                 more: true,
-            }
+            })
         }
         Word::Reset => {
-            io::write_all(STDOUT_FILENO, b"reset\n");
+            streams::write_all(to, b"reset\n")?;
             let after = slider::reset(slider);
-            Turn {
+            Ok(Turn {
                 slider: after,
                 more: true,
-            }
+            })
         }
         Word::Other => {
-            usage();
-            Turn {
+            usage(rt)?;
+            Ok(Turn {
                 slider,
                 more: false,
-            }
+            })
         }
     }
 }
 
 // The words from the third on, one after the other.
-fn walk(slider: Slider, s: &[u8], b: Book, k: u32, room: &mut [u8])
+fn walk<R: Env + Eprint, W: Write>(
+    rt: &R,
+    to: &mut W,
+    slider: Slider,
+    s: &[u8],
+    b: Book,
+    k: u32,
+    room: &mut [u8],
+) -> io::Result<()>
     requires { (b ≡ book_of s.now) × (b.number ≡ 0) }
 {
-    let count = os::arg_count();
+    let count = streams::arg_count(rt);
     let mut t = Turn { slider, more: true };
     let mut i = 3;
     while i < count {
         let now = t.slider;
-        t = take_word(now, i, s, b, k, &mut *room);
+        t = take_word(rt, to, now, i, s, b, k, &mut *room)?;
         if !t.more {
-            return;
+            return Ok(());
         }
         i += 1;
     }
+    Ok(())
 }
 
-fn usage() {
-    io::write_all(
-        STDERR_FILENO,
-        b"usage: scrub K ROOM N.. <BOOK, with a number or reset for each N\n",
-    );
+fn usage<R: Eprint>(rt: &R) -> io::Result<()> {
+    rt.eprint("usage: scrub K ROOM N.. <BOOK, with a number or reset for each N\n")
 }
 
 // A refused book: its refusal and the byte place.
-fn refuse(number: u16, place: usize)
+fn refuse<W: Write>(to: &mut W, number: u16, place: usize) -> io::Result<()>
     requires { place < 4294967296 }
 {
     let mut out = [0u8; 33];
     let n = text::put_refused(&mut out, 0, number, place);
-    io::write_all(STDOUT_FILENO, &out[..n]);
+    streams::write_all(to, &out[..n])
 }
 
-fn scrub(s: &[u8])
+fn scrub<R: Env + Eprint, W: Write>(rt: &R, to: &mut W, s: &[u8]) -> io::Result<()>
     requires { length s.now < 4294967296 }
 {
     let o = slider::open(s);
     if o.number != 0 {
-        refuse(o.number, o.place);
-        return;
+        return refuse(to, o.number, o.place);
     }
     let b = book::read_book(s);
-    let Word::Number(k) = argument(1) else {
-        usage();
-        return;
+    let Word::Number(k) = argument(rt, 1) else {
+        return usage(rt);
     };
-    let Word::Number(long) = argument(2) else {
-        usage();
-        return;
+    let Word::Number(long) = argument(rt, 2) else {
+        return usage(rt);
     };
     let mut room = room_bytes();
     let most = at_most(long as usize);
     let slider = o.slider;
-    walk(slider, s, b, k, &mut room[..most]);
+    walk(rt, to, slider, s, b, k, &mut room[..most])
 }
 
-fn main() {
+fn main(rt: HostRuntime) -> io::Result<()> {
     let mut bytes = player::book_buffer();
-    let n = io::read_full(STDIN_FILENO, &mut bytes);
-    scrub(&bytes[..n]);
+    let mut from = rt.reader();
+    let n = streams::read_full(&mut from, &mut bytes)?;
+    let mut to = io::writer(&rt);
+    scrub(&rt, &mut to, &bytes[..n])
 }

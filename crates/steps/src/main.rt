@@ -7,27 +7,33 @@ ghost use Rattle.std.specs.Prelude.{◌≡◌, length};
 ghost use Rattle.steps.specs.Rooms.{Rooms};
 
 use packed::Head;
+use std::io;
+use std::io::{Read, Write};
 
 // The next step; false where there is none.
-fn play_next(
+fn play_next<R: Read, W: Write>(
+    from: &mut R,
+    to: &mut W,
     bytes: &mut [u8],
     mines: &mut [i8],
     shown: &mut [u8],
     bits: &mut [u8],
     work: &mut [u16],
     out: &mut [u8],
-) -> bool
+) -> io::Result<bool>
     requires { Rooms bytes.old mines.old shown.old bits.old work.old out.old }
 {
     let mut head: Head = [0; 80];
-    if !telling::read_part(&mut head) {
-        return false;
+    if !telling::read_part(from, &mut head)? {
+        return Ok(false);
     }
     let cells = packed::length_at(&head, 72);
     let looks = packed::length_at(&head, 74);
     let flags = packed::length_at(&head, 76);
     let room = packed::length_at(&head, 78);
     telling::play_rest(
+        from,
+        to,
         &head,
         &mut bytes[..cells],
         &mut mines[..cells],
@@ -58,20 +64,23 @@ fn text_room() -> [u8; 524544]
     [0; 524544]
 }
 
-fn main() {
-    let mut bytes = io::large_buffer();
+fn main(rt: HostRuntime) -> io::Result<()> {
+    let mut from = rt.reader();
+    let mut to = io::writer(&rt);
+    let mut bytes = streams::large_buffer();
     let mut mines = mine_room();
-    let mut shown = io::large_buffer();
-    let mut bits = io::large_buffer();
+    let mut shown = streams::large_buffer();
+    let mut bits = streams::large_buffer();
     let mut work = work_room();
     let mut out = text_room();
     let mut left = 1000000u32;
     while 0 < left {
         if !play_next(
-            &mut bytes, &mut mines, &mut shown, &mut bits, &mut work, &mut out,
-        ) {
-            return;
+            &mut from, &mut to, &mut bytes, &mut mines, &mut shown, &mut bits, &mut work, &mut out,
+        )? {
+            return Ok(());
         }
         left -= 1;
     }
+    Ok(())
 }

@@ -1,4 +1,4 @@
-// A packed step whose head is given: the rest of it read from standard input, played with `board`'s calls and told on standard output.
+// A packed step whose head is given: the rest of it read from a reader, played with `board`'s calls and told at a writer.
 // The contract of a step told cites specs/Told.antt, its line.
 #![tactic(auto)]
 
@@ -10,9 +10,10 @@ ghost use Rattle.rules.specs.Calls.{outcome};
 ghost use Rattle.board.specs.Pair.{pair_of};
 ghost use Rattle.telling.specs.Told.{called_by, step_line};
 
-use libc::{STDIN_FILENO, STDOUT_FILENO};
 use packed::Head;
 use rules::{Answer, Position};
+use std::io;
+use std::io::{Read, Write};
 
 // Resolve, and where it answers 0 the step with the plain code, at the position that came back.
 fn pair(
@@ -118,23 +119,31 @@ fn tell_step(
 }
 
 // The next bytes, as many as the room has; false where the input ends before.
-pub fn read_part(room: &mut [u8]) -> bool {
-    io::read_full(STDIN_FILENO, &mut *room) == room.len()
+pub fn read_part<R: Read>(from: &mut R, room: &mut [u8]) -> io::Result<bool> {
+    let n = streams::read_full(from, &mut *room)?;
+    Ok(n == room.len())
 }
 
 // What is lent with a step; false where it is cut off.
-fn read_lent(bytes: &mut [u8], shown: &mut [u8], bits: &mut [u8]) -> bool {
-    if !read_part(&mut *bytes) {
-        return false;
+fn read_lent<R: Read>(
+    from: &mut R,
+    bytes: &mut [u8],
+    shown: &mut [u8],
+    bits: &mut [u8],
+) -> io::Result<bool> {
+    if !read_part(from, &mut *bytes)? {
+        return Ok(false);
     }
-    if !read_part(&mut *shown) {
-        return false;
+    if !read_part(from, &mut *shown)? {
+        return Ok(false);
     }
-    read_part(&mut *bits)
+    read_part(from, &mut *bits)
 }
 
 // The rest of a step, played; false where it is cut off.
-pub fn play_rest(
+pub fn play_rest<R: Read, W: Write>(
+    from: &mut R,
+    to: &mut W,
     head: &Head,
     bytes: &mut [u8],
     mines: &mut [i8],
@@ -142,12 +151,12 @@ pub fn play_rest(
     bits: &mut [u8],
     work: &mut [u16],
     out: &mut [u8],
-) -> bool
+) -> io::Result<bool>
     requires mines_len { length mines.old ≡ length bytes.old }
     requires bits_in_bounds { outcome_room (length shown.old) (length bits.old) ≤ length out.old }
 {
-    if !read_lent(&mut *bytes, &mut *shown, &mut *bits) {
-        return false;
+    if !read_lent(from, &mut *bytes, &mut *shown, &mut *bits)? {
+        return Ok(false);
     }
     let n = tell_step(
         head,
@@ -158,5 +167,6 @@ pub fn play_rest(
         &mut *work,
         &mut *out,
     );
-    io::write_all(STDOUT_FILENO, &out[..n])
+    streams::write_all(to, &out[..n])?;
+    Ok(true)
 }

@@ -2,9 +2,10 @@
 // The files stdin and stdout are the Rust's stored answers, made by `oracle/vectors`.
 #![tactic(auto)]
 
-ghost use Rattle.std.specs.Prelude.{◌<◌, ◌≤◌};
+ghost use Rattle.std.specs.Prelude.{◌<◌, ◌≤◌, IfOk};
 
-use libc::{STDIN_FILENO, STDOUT_FILENO};
+use std::io;
+use std::io::{Read, Write};
 
 // A length of two bytes.
 fn length_of(low: u8, high: u8) -> usize
@@ -14,43 +15,46 @@ fn length_of(low: u8, high: u8) -> usize
 }
 
 // The length of the next book, or 65,536 where there is none.
-fn next_length() -> usize
-    ensures { result ≤ 65536 }
+fn next_length<R: Read>(from: &mut R) -> io::Result<usize>
+    ensures { IfOk result (λ n. n ≤ 65536) }
 {
     let mut head = [0u8; 2];
-    if io::read_full(STDIN_FILENO, &mut head) != 2 {
-        return 65536;
+    if streams::read_full(from, &mut head)? != 2 {
+        return Ok(65536);
     }
-    length_of(head[0], head[1])
+    Ok(length_of(head[0], head[1]))
 }
 
 // The next book, as long as its room; false where it is cut off.
-fn play_in(room: &mut [u8]) -> bool {
-    if io::read_full(STDIN_FILENO, &mut *room) != room.len() {
-        return false;
+fn play_in<R: Read, W: Write>(from: &mut R, to: &mut W, room: &mut [u8]) -> io::Result<bool> {
+    if streams::read_full(from, &mut *room)? != room.len() {
+        return Ok(false);
     }
     let mut out = player::text_room();
-    player::write_printout(STDOUT_FILENO, &*room, &mut out);
-    true
+    player::write_printout(to, &*room, &mut out)?;
+    Ok(true)
 }
 
-fn play_next(n: usize) -> bool
+fn play_next<R: Read, W: Write>(from: &mut R, to: &mut W, n: usize) -> io::Result<bool>
     requires { n < 65536 }
 {
-    let mut bytes = io::large_buffer();
-    play_in(&mut bytes[..n])
+    let mut bytes = streams::large_buffer();
+    play_in(from, to, &mut bytes[..n])
 }
 
-fn main() {
+fn main(rt: HostRuntime) -> io::Result<()> {
+    let mut from = rt.reader();
+    let mut to = io::writer(&rt);
     let mut left = 65536u32;
     while 0 < left {
-        let n = next_length();
+        let n = next_length(&mut from)?;
         if n == 65536 {
-            return;
+            return Ok(());
         }
-        if !play_next(n) {
-            return;
+        if !play_next(&mut from, &mut to, n)? {
+            return Ok(());
         }
         left -= 1;
     }
+    Ok(())
 }

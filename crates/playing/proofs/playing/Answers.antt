@@ -8,16 +8,16 @@ pub play_lc-requires : goal.play_lc-requires
 play_lc-requires c = c.requires.able_at.room.left
 
 pub play_lr-requires : goal.play_lr-requires
-play_lr-requires c = record { able_at = c.requires.able_at; inside = inside_event _ _ _ c.requires.inside_of c.in-Lr.is; le_right = c.requires.le_right }
+play_lr-requires c = record { able_at = c.requires.able_at; inside = inside_event c.args.p.settings _ _ c.requires.inside_of c.in-Lr.is; le_right = c.requires.le_right }
 
 pub play_rc-requires : goal.play_rc-requires
-play_rc-requires c = record { able_at = c.requires.able_at; inside = inside_event _ _ _ c.requires.inside_of c.in-Rc.is }
+play_rc-requires c = record { able_at = c.requires.able_at; inside = inside_event c.args.p.settings _ _ c.requires.inside_of c.in-Rc.is }
 
 pub play_rr-requires : goal.play_rr-requires
-play_rr-requires c = record { able_at = c.requires.able_at; inside = inside_event _ _ _ c.requires.inside_of c.in-Rr.is; le_right = c.requires.le_right }
+play_rr-requires c = record { able_at = c.requires.able_at; inside = inside_event c.args.p.settings _ _ c.requires.inside_of c.in-Rr.is; le_right = c.requires.le_right }
 
 pub play_mr-requires : goal.play_mr-requires
-play_mr-requires c = record { able_at = c.requires.able_at; inside = inside_event _ _ _ c.requires.inside_of c.in-Mr.is }
+play_mr-requires c = record { able_at = c.requires.able_at; inside = inside_event c.args.p.settings _ _ c.requires.inside_of c.in-Mr.is }
 
 pub returns-in-Lc : goal.returns-in-Lc
 unfolding playing

@@ -9,10 +9,10 @@ use Rattle.practice.proofs.Lines.{handed_fits, handed_whole}
 use Rattle.practice.proofs.run.Goals as goal
 
 pub slice_bounds-hand-end : goal.slice_bounds-hand-end
-slice_bounds-hand-end c = sym (length-take-le _ _ (handed_fits c.line_room-out.ensures c.put_broken-long.ensures c.put_broken-long.auto.out))
+slice_bounds-hand-end g c = sym (length-take-le _ _ (handed_fits c.line_room-out.ensures c.put_broken-long.ensures c.put_broken-long.auto.out))
 
 pub hand-requires : goal.hand-requires
-hand-requires c = short (lt-leb 4 _ c.if-s-lt4.true) (handed_whole c.line_room-out.ensures c.put_broken-long.ensures)
+hand-requires g c = short (lt-leb 4 _ c.if-s-lt4.true) (handed_whole c.line_room-out.ensures c.put_broken-long.ensures)
 
 pub run_calls-requires : goal.run_calls-requires
-run_calls-requires c = record { in_bounds = (omega arith, c.requires); reached = reached_start c.args.s.now c.two_at-asked.ensures.0 c.two_at-followed.ensures.0 }
+run_calls-requires g c = record { in_bounds = (omega arith, c.requires); reached = reached_start c.args.s.now c.two_at-asked.ensures.0 c.two_at-followed.ensures.0 }

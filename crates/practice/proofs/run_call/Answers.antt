@@ -7,7 +7,7 @@ use Rattle.practice.proofs.Lines.{handed_fits, handed_whole}
 use Rattle.practice.proofs.run_call.Goals as goal
 
 pub slice_bounds-hand-end : goal.slice_bounds-hand-end
-slice_bounds-hand-end c = sym (length-take-le _ _ (handed_fits c.line_room-out.ensures c.tell_call-told.ensures.line c.tell_call-told.auto.out))
+slice_bounds-hand-end g c = sym (length-take-le _ _ (handed_fits c.line_room-out.ensures c.tell_call-told.ensures.line c.tell_call-told.auto.out))
 
 pub hand-requires : goal.hand-requires
-hand-requires c = call c.requires.reached (call_some _ _ c.requires.call_is.0 c.requires.call_is.1) (handed_whole c.line_room-out.ensures c.tell_call-told.ensures.line)
+hand-requires g c = call c.requires.reached (call_some _ _ c.requires.call_is.0 c.requires.call_is.1) (handed_whole c.line_room-out.ensures c.tell_call-told.ensures.line)

@@ -8,25 +8,25 @@ use Rattle.practice.proofs.Lines.{handed_fits, handed_whole}
 use Rattle.practice.proofs.run_calls.Goals as goal
 
 pub loop-at-init : goal.loop-at-init
-loop-at-init c = (omega arith, c.requires.reached)
+loop-at-init g c = (omega arith, c.requires.reached)
 
 pub call_length-n-requires : goal.call_length-n-requires
-call_length-n-requires c = c.loop-at.invariant.0
+call_length-n-requires g c = c.loop-at.invariant.0
 
 pub slice_bounds-hand-end : goal.slice_bounds-hand-end
-slice_bounds-hand-end c = sym (length-take-le _ _ (handed_fits c.line_room-out.ensures c.put_broken-long.ensures c.put_broken-long.auto.out))
+slice_bounds-hand-end g c = sym (length-take-le _ _ (handed_fits c.line_room-out.ensures c.put_broken-long.ensures c.put_broken-long.auto.out))
 
 pub hand-requires : goal.hand-requires
-hand-requires c = broken c.loop-at.invariant.1 (sym c.call_length-n.ensures.same ∙ c.if-n-eq0.true) (handed_whole c.line_room-out.ensures c.put_broken-long.ensures)
+hand-requires g c = broken c.loop-at.invariant.1 (sym c.call_length-n.ensures.same ∙ c.if-n-eq0.true) (handed_whole c.line_room-out.ensures c.put_broken-long.ensures)
 
-pub run_call-score-requires : goal.run_call-score-requires
-run_call-score-requires c = record { call_is = (c.call_length-n.ensures, c.if-n-eq0.false); reached = c.loop-at.invariant.1 }
+pub run_call-requires : goal.run_call-requires
+run_call-requires g c = record { call_is = (c.call_length-n.ensures, c.if-n-eq0.false); reached = c.loop-at.invariant.1 }
 
 pub overflow_add-at : goal.overflow_add-at
-overflow_add-at c = omega (arith, c.call_length-n.ensures.within)
+overflow_add-at g c = omega (arith, c.call_length-n.ensures.within)
 
 pub loop-at-smaller : goal.loop-at-smaller
-loop-at-smaller c = omega (arith, c.call_length-n.ensures.within)
+loop-at-smaller g c = omega (arith, c.call_length-n.ensures.within)
 
 pub loop-at-preserved : goal.loop-at-preserved
-loop-at-preserved c = (omega arith, reached_next _ _ c.call_length-n.ensures c.if-n-eq0.false c.loop-at.invariant.1 c.run_call-score.ensures)
+loop-at-preserved g c = (omega arith, reached_next _ _ c.call_length-n.ensures c.if-n-eq0.false c.loop-at.invariant.1 c.in_ok-score.ensures)

@@ -5,7 +5,7 @@ use Rattle.practice.specs.Practice.{Reached}
 use Rattle.practice.proofs.run_calls.Given as goal
 
 abbrev pub invariant-loop-at : goal.invariant-loop-at
-invariant-loop-at l = (l.at ≤ length l.s) × Reached l.s l.at l.score
+invariant-loop-at g l = (l.at ≤ length l.s) × Reached l.s l.at l.score
 
 abbrev pub decreases-loop-at : goal.decreases-loop-at
-decreases-loop-at l = length l.s - l.at
+decreases-loop-at g l = length l.s - l.at

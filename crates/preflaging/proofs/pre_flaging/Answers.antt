@@ -8,16 +8,16 @@ pub play_lc-requires : goal.play_lc-requires
 play_lc-requires c = c.requires.able_at.room.left
 
 pub pre_lr-requires : goal.pre_lr-requires
-pre_lr-requires c = record { able_at = c.requires.able_at; inside = inside_event _ _ _ c.requires.inside_of c.in-Lr.is; le_right = c.requires.le_right }
+pre_lr-requires c = record { able_at = c.requires.able_at; inside = inside_event c.args.p.settings _ _ c.requires.inside_of c.in-Lr.is; le_right = c.requires.le_right }
 
 pub pre_rc-requires : goal.pre_rc-requires
-pre_rc-requires c = record { able_at = c.requires.able_at; inside = inside_event _ _ _ c.requires.inside_of c.in-Rc.is; preflags_bound = c.requires.preflags_bound; by_index = c.requires.by_index }
+pre_rc-requires c = record { able_at = c.requires.able_at; inside = inside_event c.args.p.settings _ _ c.requires.inside_of c.in-Rc.is; preflags_bound = c.requires.preflags_bound; by_index = c.requires.by_index }
 
 pub play_rr-requires : goal.play_rr-requires
-play_rr-requires c = record { able_at = c.requires.able_at; inside = inside_event _ _ _ c.requires.inside_of c.in-Rr.is; le_right = c.requires.le_right }
+play_rr-requires c = record { able_at = c.requires.able_at; inside = inside_event c.args.p.settings _ _ c.requires.inside_of c.in-Rr.is; le_right = c.requires.le_right }
 
 pub pre_flag-requires : goal.pre_flag-requires
-pre_flag-requires c = record { able_at = c.requires.able_at; inside = inside_event _ _ _ c.requires.inside_of c.in-Pf.is; preflags_bound = c.requires.preflags_bound }
+pre_flag-requires c = record { able_at = c.requires.able_at; inside = inside_event c.args.p.settings _ _ c.requires.inside_of c.in-Pf.is; preflags_bound = c.requires.preflags_bound }
 
 pub returns-in-Lc : goal.returns-in-Lc
 unfolding pre_flaging

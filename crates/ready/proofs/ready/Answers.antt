@@ -5,10 +5,10 @@ use Rattle.rules.specs.Step.{ready}
 use Rattle.ready.proofs.ready.Goals as goal
 
 pub ready_rc-requires : goal.ready_rc-requires
-ready_rc-requires c = record { able_at = c.requires.able_at; inside = inside_event _ _ _ c.requires.inside_of c.in-Rc.is }
+ready_rc-requires c = record { able_at = c.requires.able_at; inside = inside_event c.args.p.settings _ _ c.requires.inside_of c.in-Rc.is }
 
 pub pre_flag-requires : goal.pre_flag-requires
-pre_flag-requires c = record { able_at = c.requires.able_at; inside = inside_event _ _ _ c.requires.inside_of c.in-Pf.is; preflags_bound = c.requires.preflags_bound }
+pre_flag-requires c = record { able_at = c.requires.able_at; inside = inside_event c.args.p.settings _ _ c.requires.inside_of c.in-Pf.is; preflags_bound = c.requires.preflags_bound }
 
 pub returns-in-Lc : goal.returns-in-Lc
 unfolding ready

@@ -5,4 +5,4 @@ use borrow.Author.Rules.{rules}
 use Rattle.scrub.proofs.refuse.Goals as goal
 
 pub slice_bounds-write_all-end : goal.slice_bounds-write_all-end
-slice_bounds-write_all-end c = sym (length-take-le _ _ (search rules))
+slice_bounds-write_all-end g c = sym (length-take-le _ _ (search rules))

@@ -5,7 +5,7 @@ use lib.ListN.{length}
 use Rattle.scrub.proofs.walk.Given as goal
 
 abbrev pub invariant-loop-i : goal.invariant-loop-i
-invariant-loop-i l = length l.room ≡ length l.initial.room
+invariant-loop-i g l = length l.room ≡ length l.initial.room
 
 abbrev pub decreases-loop-i : goal.decreases-loop-i
-decreases-loop-i l = l.count - l.i
+decreases-loop-i g l = l.count - l.i

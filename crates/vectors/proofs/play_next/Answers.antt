@@ -5,4 +5,4 @@ use lib.Seq.{length-take-le}
 use Rattle.vectors.proofs.play_next.Goals as goal
 
 pub slice_bounds-play_in-end : goal.slice_bounds-play_in-end
-slice_bounds-play_in-end c = sym (length-take-le _ _ (omega arith))
+slice_bounds-play_in-end g c = sym (length-take-le _ _ (omega arith))

@@ -1,0 +1,15 @@
+-- The bytes that a write took follow those that stand before `done`.
+use Rattle.std.proofs.Common.{◌≡◌, ℕ, ◌+◌, ◌-◌, List, ◌++◌, rules, length, take, drop, sym, ap, ◌∙◌, subst}
+use Rattle.std.proofs.lemmas.List.{take_rest}
+use Rattle.std.specs.Io.KnownBytes.{Appends}
+use Rattle.std.proofs.KnownBytes.{Appends-trans}
+use lib.Seq.{take-add}
+use Rattle.streams.proofs.write_all.Goals as goal
+
+take_more : (a n : ℕ) (xs : List ℕ) → take a xs ++ take n (take (length xs - a) (drop a xs)) ≡ take (a + n) xs
+take_more a n xs = ap (λ l. take a xs ++ take n l) (take_rest xs a) ∙ sym (take-add a n xs)
+
+pub loop-done-preserved : goal.loop-done-preserved
+loop-done-preserved g c =
+    let more = take_more c.loop-done.done c.in_ok-n.n c.args.text.now in
+    (search rules, subst (Appends _ _) more (Appends-trans _ _ _ _ _ c.loop-done.invariant.1 c.in_ok-n.ensures.bytes))
