@@ -1,13 +1,13 @@
 -- A step's line is that of its outcome; and what the pair leaves.
-use mathlib.Core.Path.{◌≡◌, ap, ◌∙◌}
+use mathlib.Core.Path.{◌≡◌, ap, ap₂, ◌∙◌}
 use mathlib.Core.Bool.{Bool, ◌&&◌, ◌||◌}
 use mathlib.Core.List.{List}
-use Prim.Native.Nat.{ℕ, ◌<◌}
+use Prim.Native.Nat.{ℕ, ◌<◌, ◌≤◌}
 use native.Mathlib.Omega.{arith}
 use borrow.Author.Tests.{eq-eqb, ne_eqb}
 use lib.Dec.{eqb, leb}
 use lib.IntN.{ℤ}
-use lib.ListN.{length, get_or}
+use lib.ListN.{length, get_or, take}
 use Rattle.rules.specs.declared.Answer.{Answer}
 use Rattle.rules.specs.declared.Position.{Position}
 use Rattle.rules.specs.Clicks.{Desk, desk, on}
@@ -18,7 +18,7 @@ use Rattle.cells.proofs.Words.{pick_both}
 use Rattle.board.specs.Pair.{pair_of}
 use Rattle.board.proofs.Pair.{plain_at_of, Resolves, back, heard, resolves}
 use Rattle.writing.specs.Put.{PutWithin}
-use Rattle.writing.proofs.Putting.{within, put_as}
+use Rattle.writing.proofs.Putting.{within, put_as, put_front}
 use Rattle.packed.specs.Packed.{position_in, signed_all}
 use Rattle.packed.specs.Line.{outcome_line, outcome_room, line_after}
 use Rattle.telling.specs.Told.{called_by, step_line}
@@ -41,6 +41,12 @@ module _ (head bytes shown bits work : List ℕ) {B : List ℤ} {p : Position} {
       let l = ap length line_is in
       let s = t.short in
       within (omega arith) (put_as line_is t.put)
+
+-- what is handed over is the line of the step that was read
+module _ (head bytes shown bits work : List ℕ) {out out' : List ℕ} {n m k : ℕ} (cells : length shown ≡ m) (flags : length bits ≡ k) (room : outcome_room m k ≤ length out)
+    (t : PutWithin (outcome_room (length shown) (length bits)) (step_line head bytes shown bits work) 0 out out' n) where
+  pub line_handed : take n out' ≡ step_line head bytes shown bits work
+  line_handed = (put_front (let e = ap₂ outcome_room cells flags in let s = t.short in omega arith) t.put).1
 
 -- ---- the pair ----------------------------------------------------------------------------------------------------------------------------
 

@@ -1,5 +1,7 @@
--- The call that a packed step is for, and its line.
-use Rattle.std.specs.Prelude.{List, ℕ, eqb, get_or, ℤ}
+-- The call that a packed step is for, and its line; and what reading and telling a step does to bytes that are known.
+use Rattle.std.specs.Prelude.{List, ◌++◌, ℕ, eqb, get_or, take, ℤ}
+use Rattle.std.specs.declared.option.Option.{Option}
+use Rattle.std.specs.Io.KnownBytes.{Appends, Consumes}
 use Rattle.rules.specs.Words.{pick}
 use Rattle.rules.specs.Clicks.{Desk, desk}
 use Rattle.rules.specs.Calls.{Outcome, outcome, resolve_of, step_of}
@@ -18,3 +20,17 @@ abbrev pub step_line : List ℕ → List ℕ → List ℕ → List ℕ → List 
 step_line head mines shown bits work =
     line_after
     (called_by (get_or head 55 0) (signed_all mines) (get_or head 51 0) (get_or head 52 0) (get_or head 53 0) (desk (position_in head) shown bits) work)
+
+-- a step was read, its mine board first, and its line was written
+pub record Tells (from from' to to' : Option (List ℕ)) (head bytes work : List ℕ) : Type 0 where
+  pub shown : List ℕ
+  pub bits : List ℕ
+  pub read : Consumes from from' (bytes ++ (shown ++ bits))
+  pub line : Appends to to' (step_line head bytes shown bits work)
+
+-- a front of a step's line was written, or nothing
+pub record TellsPart (to to' : Option (List ℕ)) (head bytes work : List ℕ) : Type 0 where
+  pub shown : List ℕ
+  pub bits : List ℕ
+  pub long : ℕ
+  pub line : Appends to to' (take long (step_line head bytes shown bits work))

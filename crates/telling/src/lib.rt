@@ -2,13 +2,15 @@
 // The contract of a step told cites specs/Told.antt, its line.
 #![tactic(auto)]
 
-ghost use Rattle.std.specs.Prelude.{◌≡◌, ◌≤◌, length};
+ghost use Rattle.std.specs.Prelude.{◌≡◌, ◌≤◌, ◌++◌, length, IfOk, OnErr, IsTrue, IsFalse};
+ghost use Rattle.std.specs.Io.KnownBytes.{Appends, Consumes, IsAtEnd, Keeps};
+ghost use Rattle.streams.specs.Streams.{ConsumesPart};
 ghost use Rattle.writing.specs.Put.{PutWithin};
 ghost use Rattle.packed.specs.Line.{outcome_room};
 ghost use Rattle.rules.specs.Clicks.{desk};
 ghost use Rattle.rules.specs.Calls.{outcome};
 ghost use Rattle.board.specs.Pair.{pair_of};
-ghost use Rattle.telling.specs.Told.{called_by, step_line};
+ghost use Rattle.telling.specs.Told.{called_by, step_line, Tells, TellsPart};
 
 use packed::Head;
 use rules::{Answer, Position};
@@ -119,7 +121,11 @@ fn tell_step(
 }
 
 // The next bytes, as many as the room has; false where the input ends before.
-pub fn read_part<R: Read>(from: &mut R, room: &mut [u8]) -> io::Result<bool> {
+pub fn read_part<R: Read>(from: &mut R, room: &mut [u8]) -> io::Result<bool>
+    ensures whole { IfOk result (λ whole. IsTrue whole → Consumes (R.remaining from.old) (R.remaining from.new) room.new) }
+    ensures cut_off { IfOk result (λ whole. IsFalse whole → IsAtEnd (R.remaining from.new)) }
+    ensures err { OnErr result (ConsumesPart (R.remaining from.old) (R.remaining from.new) room.new) }
+{
     let n = streams::read_full(from, &mut *room)?;
     Ok(n == room.len())
 }
@@ -130,7 +136,10 @@ fn read_lent<R: Read>(
     bytes: &mut [u8],
     shown: &mut [u8],
     bits: &mut [u8],
-) -> io::Result<bool> {
+) -> io::Result<bool>
+    ensures whole { IfOk result (λ whole. IsTrue whole → Consumes (R.remaining from.old) (R.remaining from.new) (bytes.new ++ (shown.new ++ bits.new))) }
+    ensures cut_off { IfOk result (λ whole. IsFalse whole → IsAtEnd (R.remaining from.new)) }
+{
     if !read_part(from, &mut *bytes)? {
         return Ok(false);
     }
@@ -140,7 +149,7 @@ fn read_lent<R: Read>(
     read_part(from, &mut *bits)
 }
 
-// The rest of a step, played; false where it is cut off.
+// The rest of a step, played and told; false where it is cut off, and then nothing is told. A read or a write that fails is the only error.
 pub fn play_rest<R: Read, W: Write>(
     from: &mut R,
     to: &mut W,
@@ -154,6 +163,11 @@ pub fn play_rest<R: Read, W: Write>(
 ) -> io::Result<bool>
     requires mines_len { length mines.old ≡ length bytes.old }
     requires bits_in_bounds { outcome_room (length shown.old) (length bits.old) ≤ length out.old }
+    ensures whole { IfOk result (λ whole. IsTrue whole →
+        Tells (R.remaining from.old) (R.remaining from.new) (W.contents to.old) (W.contents to.new) head.now bytes.new work.old) }
+    ensures cut_off { IfOk result (λ whole. IsFalse whole →
+        IsAtEnd (R.remaining from.new) × Keeps (W.contents to.old) (W.contents to.new)) }
+    ensures err { OnErr result (TellsPart (W.contents to.old) (W.contents to.new) head.now bytes.new work.old) }
 {
     if !read_lent(from, &mut *bytes, &mut *shown, &mut *bits)? {
         return Ok(false);

@@ -1,17 +1,12 @@
 -- `telling::play_rest` meets its contract: reading keeps the lengths, so the line has its room.
-use mathlib.Core.Path.{sym, ◌∙◌}
+use mathlib.Core.Path.{sym, ap, subst, ◌∙◌}
+use lib.ListN.{take}
+use Rattle.std.specs.Io.KnownBytes.{Appends}
+use Rattle.streams.proofs.Handing.{anyway}
+use Rattle.telling.proofs.Telling.{line_handed}
 use native.Mathlib.Omega.{arith}
 use lib.Seq.{length-take-le}
 use Rattle.telling.proofs.play_rest.Goals as goal
-
-pub shape_of-bytes-then-not-read_lent : goal.shape_of-bytes-then-not-read_lent
-shape_of-bytes-then-not-read_lent g c = c.read_lent.auto.bytes
-
-pub shape_of-shown-then-not-read_lent : goal.shape_of-shown-then-not-read_lent
-shape_of-shown-then-not-read_lent g c = c.read_lent.auto.shown
-
-pub shape_of-bits-then-not-read_lent : goal.shape_of-bits-then-not-read_lent
-shape_of-bits-then-not-read_lent g c = c.read_lent.auto.bits
 
 pub slice_bounds-write_all-end-2 : goal.slice_bounds-write_all-end-2
 slice_bounds-write_all-end-2 g c = sym (length-take-le _ _ (omega arith))
@@ -33,3 +28,21 @@ shape_of-work g c = c.tell_step-n.auto.work
 
 pub shape_of-out : goal.shape_of-out
 shape_of-out g c = c.tell_step-n.auto.out
+
+pub returns-clause-whole : goal.returns-clause-whole
+returns-clause-whole g c = λ _. record {
+    shown = c.read_lent.new.shown;
+    bits = c.read_lent.new.bits;
+    read = c.in_ok-read_lent.ensures.whole c.if-not-branch.false;
+    line = subst (Appends _ _) (line_handed c.args.head.now c.read_lent.new.bytes c.read_lent.new.shown c.read_lent.new.bits c.args.work.now c.read_lent.auto.shown c.read_lent.auto.bits c.requires.bits_in_bounds c.tell_step-n.ensures) c.in_ok-write_all.ensures.ok
+  }
+
+pub returns-in_err-write_all-clause-err : goal.returns-in_err-write_all-clause-err
+returns-in_err-write_all-clause-err g c =
+    let (long, _, line) = c.in_err-write_all.ensures.err in
+    anyway c.from_residual-in_err-write_all.result (record {
+      shown = c.read_lent.new.shown;
+      bits = c.read_lent.new.bits;
+      long = long;
+      line = subst (Appends _ _) (ap (take long) (line_handed c.args.head.now c.read_lent.new.bytes c.read_lent.new.shown c.read_lent.new.bits c.args.work.now c.read_lent.auto.shown c.read_lent.auto.bits c.requires.bits_in_bounds c.tell_step-n.ensures)) line
+    })
