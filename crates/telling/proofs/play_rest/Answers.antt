@@ -31,11 +31,11 @@ shape_of-out g c = c.tell_step-n.auto.out
 
 pub returns-clause-whole : goal.returns-clause-whole
 returns-clause-whole g c = λ _. record {
-    shown = c.read_lent.new.shown;
-    bits = c.read_lent.new.bits;
-    read = c.in_ok-read_lent.ensures.whole c.if-not-branch.false;
-    line = subst (Appends _ _) (line_handed c.args.head.now c.read_lent.new.bytes c.read_lent.new.shown c.read_lent.new.bits c.args.work.now c.read_lent.auto.shown c.read_lent.auto.bits c.requires.bits_in_bounds c.tell_step-n.ensures) c.in_ok-write_all.ensures.ok
-  }
+  shown = c.read_lent.new.shown;
+  bits = c.read_lent.new.bits;
+  read = c.in_ok-read_lent.ensures.whole c.if-not-branch.false;
+  line = subst (Appends _ _) (line_handed c.args.head.now c.read_lent.new.bytes c.read_lent.new.shown c.read_lent.new.bits c.args.work.now c.read_lent.auto.shown c.read_lent.auto.bits c.requires.bits_in_bounds c.tell_step-n.ensures) c.in_ok-write_all.ensures.ok;
+}
 
 pub returns-in_err-write_all-clause-err : goal.returns-in_err-write_all-clause-err
 returns-in_err-write_all-clause-err g c =
@@ -44,5 +44,5 @@ returns-in_err-write_all-clause-err g c =
       shown = c.read_lent.new.shown;
       bits = c.read_lent.new.bits;
       long = long;
-      line = subst (Appends _ _) (ap (take long) (line_handed c.args.head.now c.read_lent.new.bytes c.read_lent.new.shown c.read_lent.new.bits c.args.work.now c.read_lent.auto.shown c.read_lent.auto.bits c.requires.bits_in_bounds c.tell_step-n.ensures)) line
+      line = subst (Appends _ _) (ap (take long) (line_handed c.args.head.now c.read_lent.new.bytes c.read_lent.new.shown c.read_lent.new.bits c.args.work.now c.read_lent.auto.shown c.read_lent.auto.bits c.requires.bits_in_bounds c.tell_step-n.ensures)) line;
     })
