@@ -2,7 +2,7 @@
 // output. specs/Practice.antt has the bytes and the lines. It reads 65,536 bytes at most; the rest of a longer input is not read.
 #![tactic(auto)]
 
-ghost use Rattle.std.specs.Prelude.{◌≡◌, ◌∷◌, [], ◌++◌, ◌+◌, ◌<◌, ◌≤◌, length, IfOk, OnOk, OnErr};
+ghost use Rattle.std.specs.Prelude.{◌≡◌, ◌∷◌, [], ◌++◌, ◌+◌, ◌<◌, ◌≤◌, ℕ, List, length, IfOk, OnOk, OnErr};
 ghost use Rattle.std.specs.Io.KnownBytes.{Appends};
 ghost use Rattle.rules.specs.Printout.{spaced};
 ghost use Rattle.writing.specs.Put.{PutWithin};
@@ -133,11 +133,12 @@ fn put_broken(out: &mut [u8], at: usize) -> usize
     writing::put_word_line(out, 0, b"broken", &ns)
 }
 
-// The call at a place, and its line written; the answer is the score after it.
+// The call at a place, and its line written; the answer is the score after it. A write that fails is the only error: it took a front of the line.
 fn run_call<W: Write>(to: &mut W, s: &[u8], at: usize, n: usize, score: Score) -> io::Result<Score>
     requires call_is { CallIs s.now at n × (n ≡ 0 → ⊥) }
     requires reached { Reached s.now at score }
-    ensures { IfOk result (λ after. after ≡ score_at s.now at score) }
+    ensures after { IfOk result (λ after. after ≡ score_at s.now at score) }
+    ensures err { OnErr result ((text : List ℕ) × Line s.now text at × AppendsPart (W.contents to.old) (W.contents to.new) text) }
 {
     let mut out = line_room();
     let told = tell_call(s, at, n, score, &mut out);

@@ -2,7 +2,8 @@
 // The files stdin and stdout are the Rust's stored answers, made by `oracle/vectors`.
 #![tactic(auto)]
 
-ghost use Rattle.std.specs.Prelude.{◌<◌, ◌≤◌, IfOk};
+ghost use Rattle.std.specs.Prelude.{◌≡◌, ◌<◌, ◌≤◌, ℕ, List, length, IfOk, OnErr};
+ghost use Rattle.streams.specs.Streams.{ConsumesPart};
 
 use std::io;
 use std::io::{Read, Write};
@@ -14,9 +15,10 @@ fn length_of(low: u8, high: u8) -> usize
     low as usize + 256 * (high as usize)
 }
 
-// The length of the next book, or 65,536 where there is none.
+// The length of the next book, or 65,536 where there is none. A read that fails is the only error, with the length not whole.
 fn next_length<R: Read>(from: &mut R) -> io::Result<usize>
-    ensures { IfOk result (λ n. n ≤ 65536) }
+    ensures bound { IfOk result (λ n. n ≤ 65536) }
+    ensures err { OnErr result ((head : List ℕ) × (length head ≡ 2) × ConsumesPart (R.remaining from.old) (R.remaining from.new) head) }
 {
     let mut head = [0u8; 2];
     if streams::read_full(from, &mut head)? != 2 {

@@ -29,4 +29,4 @@ pub loop-at-smaller : goal.loop-at-smaller
 loop-at-smaller g c = omega (arith, c.call_length-n.ensures.within)
 
 pub loop-at-preserved : goal.loop-at-preserved
-loop-at-preserved g c = (omega arith, reached_next _ _ c.call_length-n.ensures c.if-n-eq0.false c.loop-at.invariant.1 c.in_ok-score.ensures)
+loop-at-preserved g c = (omega arith, reached_next _ _ c.call_length-n.ensures c.if-n-eq0.false c.loop-at.invariant.1 c.in_ok-score.ensures.after)
