@@ -22,6 +22,5 @@ pub extern "C" fn bench_drag(
 {
     let slider = Slider { kept };
     let o = slider::drag_to(slider, s, n, k, mines, shown, bits, work, room);
-    let after = o.slider;
-    after.kept
+    o.slider.kept
 }

@@ -5,7 +5,7 @@ ghost use Rattle.std.specs.Prelude.{◌≡◌, [], ◌∷◌, ◌*◌, ◌<◌};
 ghost use Rattle.rules.specs.Opening.{refreshed};
 ghost use Rattle.cells.specs.Promises.{Laid, Ticked};
 
-use rules::{Answer, Position, Settings};
+use rules::{Answer, Cells, Position, Settings};
 
 // `opening::refresh_board` for one cell; gives how many cells it opened.
 #[unsafe(no_mangle)]
@@ -21,8 +21,7 @@ pub extern "C" fn bench_refresh_board(
     requires cell_bound { cell < rows * columns }
     ensures { (shown.new ≡ (refreshed mines.now rows columns (cell ∷ []) shown.old).shown) × (work.new ≡ work.old) × Ticked 0 shown.old result shown.new }
 {
-    let at = [cell, 0, 0, 0, 0, 0, 0, 0];
-    let o = opening::refresh_board(mines, shown, work, rows, columns, rules::Cells { at, n: 1 });
+    let o = opening::refresh_board(mines, shown, work, rows, columns, Cells::only(cell));
     o.opened
 }
 
@@ -31,7 +30,7 @@ fn tell(p: Position, opened: u32, counts: &mut [u32]) {
     if counts.len() < 10 {
         return;
     }
-    let all = [
+    counts[..10].copy_from_slice(&[
         p.counts.left,
         p.counts.right,
         p.counts.double,
@@ -42,10 +41,7 @@ fn tell(p: Position, opened: u32, counts: &mut [u32]) {
         p.secrets.solved_left,
         p.secrets.solved_chord,
         opened,
-    ];
-    for i in 0..10 {
-        counts[i] = all[i];
-    }
+    ]);
 }
 
 // `board::setup`, and `board::step_flow` from there.

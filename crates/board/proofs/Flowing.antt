@@ -1,4 +1,6 @@
 -- A row of events as a public call: how each way through the code is the definition's outcome.
+use Rattle.std.specs.Prelude.{Option, Some, None}
+use Rattle.rules.specs.declared.Pointer.{Pointer}
 use mathlib.Core.Path.{◌≡◌, ◌∙◌, sym, ap, refl}
 use mathlib.Core.Bool.{Bool, true, false, ◌&&◌}
 use mathlib.Core.List.{List, [], ◌∷◌}
@@ -10,8 +12,6 @@ use lib.ListN.{length, get_or, drop}
 use lib.IntN.{ℤ}
 use Rattle.rules.specs.declared.Position.{Position}
 use Rattle.rules.specs.declared.Answer.{Answer}
-use Rattle.rules.specs.declared.Decoded.{Decoded}
-use Rattle.rules.specs.declared.Decoded.TheVariants.{At, Bad}
 use Rattle.rules.specs.Words.{pick}
 use Rattle.rules.specs.Lent.{work_room, work_after}
 use Rattle.rules.specs.Clicks.{Desk, Play, desk, done}
@@ -51,16 +51,16 @@ flow_whole B events d work n e z =
     (and_right (boards_fit d.position.settings B d.shown d.bits) _ (flow_fit_lem B events d work (sym e ∙ z))))
 
 -- an event that would be refused is, and leaves the desk
-step_refused_by : (B : List ℤ) (code : ℕ) (w : Decoded) (d : Desk) (k : ℕ) → k ≡ refusal_by code w d → (k ≡ 0 → ⊥) → (20 ≤ k) × (step_by_of B code w d ≡ done k d)
+step_refused_by : (B : List ℤ) (code : ℕ) (w : Option Pointer) (d : Desk) (k : ℕ) → k ≡ refusal_by code w d → (k ≡ 0 → ⊥) → (20 ≤ k) × (step_by_of B code w d ≡ done k d)
 unfolding step_by_of step_at refusal_at
-step_refused_by B code (At x) d k e z = (refused_large (plain_of code x d) d k e z, rw (← e, ne_eqb k 0 z))
-step_refused_by B code Bad d k e z = (omega arith, rw e)
+step_refused_by B code (Some x) d k e z = (refused_large (plain_of code x d) d k e z, rw (← e, ne_eqb k 0 z))
+step_refused_by B code None d k e z = (omega arith, rw e)
 
 -- one that would not be answers below 20
-step_small_by : (B : List ℤ) (code : ℕ) (w : Decoded) (d : Desk) → refusal_by code w d ≡ 0 → (step_by_of B code w d).answer < 20
+step_small_by : (B : List ℤ) (code : ℕ) (w : Option Pointer) (d : Desk) → refusal_by code w d ≡ 0 → (step_by_of B code w d).answer < 20
 unfolding step_by_of step_at
-step_small_by B code (At x) d e = rw (eq-eqb (refusal_at code x d) 0 e) (let a = (play_answers B code x d).small in omega arith)
-step_small_by B code Bad d e = absurd (omega arith)
+step_small_by B code (Some x) d e = rw (eq-eqb (refusal_at code x d) 0 e) (let a = (play_answers B code x d).small in omega arith)
+step_small_by B code None d e = absurd (omega arith)
 
 -- a row that is refused at its first event has one play
 plays_first : (B : List ℤ) (code r c : ℕ) (es events : List ℕ) (d : Desk) (k : ℕ) → events ≡ code ∷ r ∷ c ∷ es → step_on B code r c d ≡ done k d → 20 ≤ k

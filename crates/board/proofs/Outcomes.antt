@@ -1,5 +1,6 @@
 -- One outcome for every input: any two outcomes that a call's promise allows are equal, answer, position, value and every lent list.
 -- And a refusal returns its number with its place, the position given and the value 0, and writes nothing lent.
+use Rattle.std.specs.Prelude.{Option, Some, None}
 use mathlib.Core.Path.{◌≡◌, ◌∙◌, ap, refl, sym, subst⁻¹}
 use mathlib.Core.Bool.{Bool, true, false, false≢true}
 use mathlib.Core.List.{List}
@@ -13,8 +14,6 @@ use Rattle.rules.specs.declared.Settings.{Settings}
 use Rattle.rules.specs.declared.Answer.{Answer}
 use Rattle.rules.specs.declared.Value.{Value}
 use Rattle.rules.specs.declared.Pointer.{Pointer}
-use Rattle.rules.specs.declared.Decoded.{Decoded}
-use Rattle.rules.specs.declared.Decoded.TheVariants.{At, Bad}
 use Rattle.rules.specs.declared.GameState.TheVariants.{Loss}
 use Rattle.rules.specs.declared.Place.{Place}
 use Rattle.rules.specs.Words.{pick, unless}
@@ -143,9 +142,9 @@ event_back B code r c d = by (pointer_of d.position.settings r c)
     at x true h = let s = (play_answers B code x d).small in absurd (omega arith)
     at x false h = refl
 
-    by : (w : Decoded) → 20 ≤ (step_by_of B code w d).answer → (step_by_of B code w d).desk ≡ d
-    by (At x) h = at x (eqb (refusal_at code x d) 0) h
-    by Bad h = refl
+    by : (w : Option Pointer) → 20 ≤ (step_by_of B code w d).answer → (step_by_of B code w d).desk ≡ d
+    by (Some x) h = at x (eqb (refusal_at code x d) 0) h
+    by None h = refl
 
 -- and its number is 30 to 33, which has no place
 pub event_far : (B : List ℤ) (code r c : ℕ) (d : Desk) → 20 ≤ (step_on B code r c d).answer → 30 ≤ (step_on B code r c d).answer
@@ -159,9 +158,9 @@ event_far B code r c d = by (pointer_of d.position.settings r c)
     at x true h = let s = (play_answers B code x d).small in absurd (omega arith)
     at x false h = refused_from (refusal x) (refusal_refuses (plain_of code x d) d) (λ (z : refusal x ≡ 0). omega arith)
 
-    by : (w : Decoded) → 20 ≤ (step_by_of B code w d).answer → 30 ≤ (step_by_of B code w d).answer
-    by (At x) h = at x (eqb (refusal_at code x d) 0) h
-    by Bad h = omega arith
+    by : (w : Option Pointer) → 20 ≤ (step_by_of B code w d).answer → 30 ≤ (step_by_of B code w d).answer
+    by (Some x) h = at x (eqb (refusal_at code x d) 0) h
+    by None h = omega arith
 
 -- a number that has no place
 far : (B : List ℤ) (n : ℕ) (d : Desk) (work : List ℕ) → 30 ≤ n → refused n d work ≡ refused_at B n d work

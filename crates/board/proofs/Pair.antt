@@ -1,25 +1,24 @@
 -- Resolve and then the plain step are the event of a game; the plain step alone is that event of a plain code. What resolve can change. Assumes nothing.
+use Rattle.std.specs.Prelude.{Option, Some, None}
 use mathlib.Core.Path.{◌≡◌, refl, sym, ap, ap₂, ◌∙◌, subst⁻¹}
 use mathlib.Core.Bool.{Bool, true, false, ◌&&◌, ◌||◌, false≢true}
 use mathlib.Core.List.{List}
 use Prim.Native.Nat.{ℕ, ◌≤◌}
 use native.Mathlib.Omega.{arith}
 use native.Mathlib.Decide.{ℕ_discrete}
-use borrow.Author.Tests.{eq-eqb, ne_eqb, eqb-true, leb-true}
+use borrow.Author.Tests.{eq-eqb, ne_eqb, leb-true}
 use lib.Dec.{eqb, leb, ltb}
 use lib.IntN.{ℤ}
 use Rattle.rules.specs.declared.Position.{Position}
 use Rattle.rules.specs.declared.Answer.{Answer}
 use Rattle.rules.specs.declared.Pointer.{Pointer}
 use Rattle.rules.specs.declared.Pointer.TheVariants.{Cell, Off}
-use Rattle.rules.specs.declared.Decoded.{Decoded}
-use Rattle.rules.specs.declared.Decoded.TheVariants.{At, Bad}
 use Rattle.rules.specs.declared.Event.{Event}
 use Rattle.rules.specs.declared.Event.TheVariants.{Lc, Lr, Rc, Rr, Mv, Mc, Mr, Cc, Pf, Unknown}
 use Rattle.rules.specs.declared.GameState.{GameState}
 use Rattle.rules.specs.declared.GameState.TheVariants.{Ready, Playing, Win, Loss, PreFlaging}
 use Rattle.rules.specs.Words.{pick, unless}
-use Rattle.rules.specs.States.{mouse_number, with_middle}
+use Rattle.rules.specs.States.{with_middle}
 use Rattle.rules.specs.Board.{fault_of}
 use Rattle.rules.specs.Clicks.{Desk, Play, desk, done, on}
 use Rattle.rules.specs.Mouse.{both_down, resolved, flipped}
@@ -43,7 +42,7 @@ use Rattle.rules.specs.Step.{
   plain_code,
   plain_on,
 }
-use Rattle.rules.specs.Calls.{Outcome, answers, refuses, boards_fit, work_fits, position_refusal, position_check, lent_refusal, resolve_by, resolve_of, played, tested, step_of}
+use Rattle.rules.specs.Calls.{answers, refuses, boards_fit, work_fits, position_refusal, position_check, lent_refusal, resolve_by, resolve_of, played, tested, step_of}
 use Rattle.rules.specs.Promises.{ResolveIs}
 use Rattle.cells.proofs.Words.{pick_both, one}
 use Rattle.keep.proofs.Lawful.{check_lawful, check_passes}
@@ -221,20 +220,20 @@ tested_plays : (B : List ℤ) (d : Desk) (work : List ℕ) (o : Play) → lent_r
 tested_plays B d work o e = simp (eq-eqb _ _ e)
 
 module _ (B : List ℤ) (code r c : ℕ) (d : Desk) (work : List ℕ) (fits : work_fits d.position.settings work ≡ true) where
-  resolved_plays : (x : Pointer) → position_check B d ≡ 0 → pointer_of d.position.settings r c ≡ At x → ltb d.position.events 65535 ≡ true
+  resolved_plays : (x : Pointer) → position_check B d ≡ 0 → pointer_of d.position.settings r c ≡ Some x → ltb d.position.events 65535 ≡ true
       → step_of B (plain_at_of code d) r c (flipped_at code d) work ≡ played d.shown (step_at B code x d) work
   unfolding step_of step_on step_by_of
   resolved_plays x e w room =
       tested_plays B (flipped_at code d) work (plain_on B (plain_at_of code d) r c (flipped_at code d))
       (lent_check B (flipped_at code d) work fits ∙ middle_check B d (flipped code d.position.middle) e)
       ∙ ap (λ (o : Play). played d.shown o work)
-      (ap (λ (y : Decoded). step_by_of B (plain_code (plain_at_of code d)) y (flipped_at code d)) w ∙ pair_at B code x d room)
+      (ap (λ (y : Option Pointer). step_by_of B (plain_code (plain_at_of code d)) y (flipped_at code d)) w ∙ pair_at B code x d room)
 
-  pair_accepted : position_check B d ≡ 0 → (w : Decoded) → pointer_of d.position.settings r c ≡ w
+  pair_accepted : position_check B d ≡ 0 → (w : Option Pointer) → pointer_of d.position.settings r c ≡ w
       → pair_by B r c d work (resolve_by code w d.position) ≡ played d.shown (step_by_of B code w d) work
   unfolding resolve_by step_by_of
-  pair_accepted e Bad q = refl
-  pair_accepted e (At x) q = go (ltb d.position.events 65535) refl
+  pair_accepted e None q = refl
+  pair_accepted e (Some x) q = go (ltb d.position.events 65535) refl
     where
       go : (t : Bool) → ltb d.position.events 65535 ≡ t
           → pair_by B r c d work (pick t (answers 0 (flipped_at code d).position (plain_at_of code d)) (answers 31 d.position 0)) ≡ played d.shown (step_at B code x d) work
@@ -262,10 +261,10 @@ pub data Resolves (B : List ℤ) (code : ℕ) (d : Desk) (a : Answer) : Type 0 w
   back : (a.number ≡ 0 → ⊥) → a ≡ refuses B d.position a.number → Resolves B code d a
   heard : a ≡ answers 0 (flipped_at code d).position (plain_at_of code d) → Resolves B code d a
 
-resolves_by : (B : List ℤ) (code : ℕ) (w : Decoded) (d : Desk) → Resolves B code d (resolve_by code w d.position)
+resolves_by : (B : List ℤ) (code : ℕ) (w : Option Pointer) (d : Desk) → Resolves B code d (resolve_by code w d.position)
 unfolding resolve_by fault_of
-resolves_by B code Bad d = back (λ (z : ◌≡◌ {A = ℕ} 30 0). omega arith) refl
-resolves_by B code (At x) d =
+resolves_by B code None d = back (λ (z : ◌≡◌ {A = ℕ} 30 0). omega arith) refl
+resolves_by B code (Some x) d =
     pick_both (Resolves B code d) (ltb d.position.events 65535) (answers 0 (flipped_at code d).position (plain_at_of code d)) (answers 31 d.position 0)
     (λ _. heard refl) (λ _. back (λ (z : ◌≡◌ {A = ℕ} 31 0). omega arith) refl)
 

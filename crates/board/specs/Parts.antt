@@ -1,8 +1,7 @@
 -- What the inner functions ensure.
-use Rattle.std.specs.Prelude.{◌≡◌, List, ℕ, ltb, length, get_or}
+use Rattle.std.specs.Prelude.{◌≡◌, List, ℕ, ltb, length, get_or, Option, Some, None}
+use Rattle.rules.specs.declared.Pointer.{Pointer}
 use Rattle.rules.specs.declared.Settings.{Settings}
-use Rattle.rules.specs.declared.Decoded.{Decoded}
-use Rattle.rules.specs.declared.Decoded.TheVariants.{At, Bad}
 use Rattle.rules.specs.Words.{pick}
 use Rattle.rules.specs.Lent.{work_after}
 use Rattle.rules.specs.Clicks.{Desk}
@@ -16,9 +15,9 @@ pub record Blanked (s : Settings) (w w' : List ℕ) : Type 0 where
   pub blank : Blank s w'
 
 -- 30 to 33 of one event, or 0
-abbrev pub refusal_by : ℕ → Decoded → Desk → ℕ
-refusal_by code (At x) d = refusal_at code x d
-refusal_by code Bad d = 30
+abbrev pub refusal_by : ℕ → Option Pointer → Desk → ℕ
+refusal_by code (Some x) d = refusal_at code x d
+refusal_by code None d = 30
 
 abbrev pub refusal_on : ℕ → ℕ → ℕ → Desk → ℕ
 refusal_on code r c d = refusal_by code (pointer_of d.position.settings r c) d

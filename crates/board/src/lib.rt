@@ -4,6 +4,7 @@
 
 ghost use Rattle.std.specs.Prelude.{◌≡◌, List, ℕ, ◌≤◌, leb, length};
 ghost use Rattle.rules.specs.Words.{pick};
+ghost use Rattle.rules.specs.Refusals.{found_number};
 ghost use Rattle.rules.specs.Lent.{work_room};
 ghost use Rattle.rules.specs.Clicks.{desk};
 ghost use Rattle.rules.specs.Calls.{cells_in};
@@ -15,7 +16,7 @@ pub use calls::{
     step_game_state, total_3bv,
 };
 pub use resolving::resolve;
-use rules::{Answer, Decoded, Position, Settings};
+use rules::{Answer, Position, Refusal, Settings};
 
 // Work comes in as it comes: it is cleared before the core plays on it, which gives it back so.
 fn blank(s: Settings, work: &mut [u16])
@@ -40,40 +41,35 @@ pub fn step(
 ) -> Answer
     ensures { StepIs p code row column mines.now shown.old bits.old work.old result shown.new bits.new work.new }
 {
-    let n = refusals::lent_refusal(p, mines, &*shown, &*bits, &*work);
-    if n != 0 {
-        return refusals::refuse(n, p, mines);
+    if let Err(refusal) = refusals::lent_refusal(p, mines, &*shown, &*bits, &*work) {
+        return refusals::refuse(refusal, p, mines);
     }
-    let s = p.settings;
-    let Decoded::At(x) = mouse::decode(s, row, column) else {
-        return calls::answer(30, p, 0);
+    let Some(x) = mouse::decode(p.settings, row, column) else {
+        return calls::refused(Refusal::Pointer, p);
     };
     let e = mouse::plain_event(code, x);
-    let k = faults::refusal_of(p, &*shown, e);
-    if k != 0 {
-        return calls::answer(k, p, 0);
+    if let Err(refusal) = faults::refusal_of(p, &*shown, e) {
+        return calls::refused(refusal, p);
     }
-    blank(s, &mut *work);
+    blank(p.settings, &mut *work);
     let o = game::play_event(p, e, mines, &mut *shown, &mut *bits, &mut *work);
     let z = o.position;
     let opened = p.counts.unopened - z.counts.unopened;
     calls::answer(o.answer, z, opened)
 }
 
-// What the first event is refused with, or 0: a row that is refused there has touched nothing.
-fn first_refusal(p: Position, events: &[u8], shown: &[u8]) -> u16
-    ensures { (bits : List ℕ) → result ≡ first_refusal events.now (desk p shown.now bits) }
+// What the first event is refused with: a row that is refused there has touched nothing.
+fn first_refusal(p: Position, events: &[u8], shown: &[u8]) -> Result<(), Refusal>
+    ensures { (bits : List ℕ) → found_number result ≡ first_refusal events.now (desk p shown.now bits) }
 {
     if events.len() < 3 {
-        return 0;
+        return Ok(());
     }
-    let s = p.settings;
-    let Decoded::At(x) = mouse::decode(s, events[1], events[2]) else {
-        return 30;
+    let Some(x) = mouse::decode(p.settings, events[1], events[2]) else {
+        return Err(Refusal::Pointer);
     };
     let h = mouse::resolve_at(p, events[0], x);
-    let e = h.event;
-    faults::refusal_of(p, shown, e)
+    faults::refusal_of(p, shown, h.event)
 }
 
 // 0, or the number of the refused event.
@@ -97,18 +93,14 @@ pub fn step_flow(
 ) -> Answer
     ensures { StepFlowIs p events.now mines.now shown.old bits.old work.old result shown.new bits.new work.new }
 {
-    let refused = refusals::flow_refusal(p, events, mines, &*shown, &*bits, &*work);
-    if refused != 0 {
+    if let Err(refused) = refusals::flow_refusal(p, events, mines, &*shown, &*bits, &*work) {
         return refusals::refuse(refused, p, mines);
     }
-    let first = first_refusal(p, events, &*shown);
-    if first != 0 {
-        return calls::answer(first, p, 0);
+    if let Err(first) = first_refusal(p, events, &*shown) {
+        return calls::refused(first, p);
     }
-    let s = p.settings;
-    blank(s, &mut *work);
+    blank(p.settings, &mut *work);
     let o = flows::flow(p, events, mines, &mut *shown, &mut *bits, &mut *work);
     let v = flow_number(o.answer);
-    let q = o.position;
-    calls::answer(v, q, 0)
+    calls::answer(v, o.position, 0)
 }

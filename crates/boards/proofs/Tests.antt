@@ -1,14 +1,12 @@
 -- What the board check needs of its definitions: products of bytes, the signed tests of a value, numbers by faces, and the refusals by cases.
 use mathlib.Core.Path.{◌≡◌, refl, ap, ap₂, sym, ◌∙◌}
-use mathlib.Core.Bool.{Bool, true, false, not, false≢true, ◌&&◌, ◌||◌}
+use mathlib.Core.Bool.{Bool, true, false, not, ◌&&◌, ◌||◌}
 use mathlib.Core.List.{List}
 use Prim.Native.Nat.{ℕ, ◌*◌}
-use native.Mathlib.Omega.{arith}
-use borrow.Author.Tests.{ltb-true, ltb-false, le-leb, lt-leb, eq-eqb, ne_eqb, not-true, not-false}
+use borrow.Author.Tests.{ltb-false, eq-eqb, ne_eqb, not-true, not-false}
 use lib.Dec.{eqb, ltb}
 use lib.ListN.{length, get_or-eq_default}
-use lib.IntN.{ℤ, pos, negsuc}
-use lib.Signed.{lt_z}
+use lib.IntN.{ℤ, pos}
 use mir.Syntax.{w8}
 use mir.Val.{SFits, to_z, of_z}
 use mir.ValLaws.{to_z-of_z}
@@ -21,32 +19,9 @@ use Rattle.cells.proofs.Grid.{around_same, size_limits}
 
 -- ---- a value -----------------------------------------------------------------------------------------------------------------------------
 
-low : (z : ℤ) → lt_z z (negsuc 0) ≡ true → false ≡ value_ok z
-low (pos n) e = absurd (false≢true e)
-low (negsuc n) e = let h = ltb-true 0 n e in sym (ne_eqb n 0 (λ d. omega arith))
-
-high : (z : ℤ) → lt_z (pos 8) z ≡ true → false ≡ value_ok z
-high (pos n) e = sym (lt-leb n 8 (ltb-true 8 n e))
-high (negsuc n) e = absurd (false≢true e)
-
-within : (z : ℤ) → lt_z z (negsuc 0) ≡ false → lt_z (pos 8) z ≡ false → true ≡ value_ok z
-within (pos n) e d = sym (le-leb n 8 (ltb-false 8 n d))
-within (negsuc n) e d = let h = ltb-false 0 n e in sym (eq-eqb n 0 (omega arith))
-
--- the code's tests are on the value read back from its bits
-module _ (z : ℤ) (f : SFits w8 z) where
-  pub value_low : lt_z (to_z w8 (of_z w8 z)) (negsuc 0) ≡ true → false ≡ value_ok z
-  value_low e = low z (rw (to_z-of_z w8 z f) at e)
-
-  pub value_high : lt_z (pos 8) (to_z w8 (of_z w8 z)) ≡ true → false ≡ value_ok z
-  value_high e = high z (rw (to_z-of_z w8 z f) at e)
-
-  pub value_within : lt_z (to_z w8 (of_z w8 z)) (negsuc 0) ≡ false → lt_z (pos 8) (to_z w8 (of_z w8 z)) ≡ false → true ≡ value_ok z
-  value_within e d = within z (rw (to_z-of_z w8 z f) at e) (rw (to_z-of_z w8 z f) at d)
-
-  -- and so is a value that is passed on
-  pub value_passed : {r t : Bool} → r ≡ value_ok (to_z w8 (of_z w8 z)) → r ≡ t → value_ok z ≡ t
-  value_passed e u = sym (ap value_ok (to_z-of_z w8 z f)) ∙ sym e ∙ u
+-- a value that is passed on is read back from its bits
+pub value_passed : (z : ℤ) → SFits w8 z → {r t : Bool} → r ≡ value_ok (to_z w8 (of_z w8 z)) → r ≡ t → value_ok z ≡ t
+value_passed z f e u = sym (ap value_ok (to_z-of_z w8 z f)) ∙ sym e ∙ u
 
 -- ---- the numbers -------------------------------------------------------------------------------------------------------------------------
 

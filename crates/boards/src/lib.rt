@@ -7,44 +7,37 @@ ghost use Rattle.rules.specs.Words.{first_not};
 ghost use Rattle.rules.specs.Grid.{cell_of};
 ghost use Rattle.rules.specs.Board.{value_ok, value_ok_at, values_ok, number_ok, numbers_ok, some_safe, safe_in, board_refusal, board_check, place_of, fault_of};
 ghost use Rattle.rules.specs.Lent.{bit_bytes};
+ghost use Rattle.rules.specs.Refusals.{refusal_number, found_number};
 ghost use Rattle.rules.specs.Clicks.{desk};
 ghost use Rattle.rules.specs.Calls.{cells_in, fresh_desk};
 ghost use Rattle.cells.specs.Ground.{Valued, Mined};
 ghost use Rattle.boards.specs.Faults.{Placeable};
 
-use rules::{Place, Position, Settings};
+use rules::{Place, Position, Refusal, Settings};
 
 // How many cells a board has.
 pub fn cell_count(rows: u8, columns: u8) -> usize
     ensures { (result ≡ rows * columns) × (result ≤ 65025) }
 {
-    cells::wide(rows) * cells::wide(columns)
+    usize::from(rows) * usize::from(columns)
 }
 
 fn value_ok(v: i8) -> bool
     ensures { result ≡ value_ok v }
 {
-    if v < -1 {
-        return false;
-    }
-    if 8 < v {
-        return false;
-    }
-    true
+    (-1..=8).contains(&v)
 }
 
 // The first cell whose value is not -1 to 8, or the board's length.
 fn value_fault(mines: &[i8]) -> usize
     ensures { result ≡ first_not (value_ok_at mines.now) (length mines.now) }
 {
-    let mut cell = 0;
-    while cell < mines.len() {
+    for cell in 0..mines.len() {
         if !value_ok(mines[cell]) {
             return cell;
         }
-        cell += 1;
     }
-    cell
+    mines.len()
 }
 
 // 22: every value is -1 to 8.
@@ -74,14 +67,12 @@ fn row_fault(mines: &[i8], rows: usize, columns: usize, row: usize) -> usize
     requires row_lt_rows { row < rows }
     ensures { result ≡ first_not (λ column. number_ok mines.now rows columns (cell_of columns row column)) columns }
 {
-    let mut column = 0;
-    while column < columns {
+    for column in 0..columns {
         if !number_ok(mines, rows, columns, row, column) {
             return column;
         }
-        column += 1;
     }
-    column
+    columns
 }
 
 // The first safe cell whose number is not its count of mine neighbours, or the board's length.
@@ -89,13 +80,11 @@ fn number_fault(mines: &[i8], rows: usize, columns: usize) -> usize
     requires { Mined mines.now rows columns }
     ensures { result ≡ first_not (number_ok mines.now rows columns) (length mines.now) }
 {
-    let mut row = 0;
-    while row < rows {
+    for row in 0..rows {
         let column = row_fault(mines, rows, columns, row);
         if column < columns {
             return row * columns + column;
         }
-        row += 1;
     }
     mines.len()
 }
@@ -113,42 +102,40 @@ fn some_safe(mines: &[i8]) -> bool
     requires { Valued mines.now }
     ensures { result ≡ some_safe mines.now }
 {
-    let mut i = 0;
-    while i < mines.len() {
+    for i in 0..mines.len() {
         if cells::face_at(mines, i) != 15 {
             return true;
         }
-        i += 1;
     }
     false
 }
 
-// The first refusal of 20 to 24, or 0, where `fit` says that every buffer of the call has its length.
-pub fn board_refusal(rows: u8, columns: u8, fit: bool, mines: &[i8]) -> u16
+// The first refusal of 20 to 24, where `fit` says that every buffer of the call has its length.
+pub fn board_refusal(rows: u8, columns: u8, fit: bool, mines: &[i8]) -> Result<(), Refusal>
     requires { fit ≡ true → length mines.now ≡ rows * columns }
-    ensures { result ≡ board_refusal rows columns fit mines.now }
+    ensures { found_number result ≡ board_refusal rows columns fit mines.now }
 {
     if !cells::size_ok(rows, columns) {
-        return 20;
+        return Err(Refusal::Size);
     }
     if !fit {
-        return 21;
+        return Err(Refusal::Length);
     }
     if !values_ok(mines) {
-        return 22;
+        return Err(Refusal::Value);
     }
-    if !numbers_ok(mines, cells::wide(rows), cells::wide(columns)) {
-        return 23;
+    if !numbers_ok(mines, usize::from(rows), usize::from(columns)) {
+        return Err(Refusal::Number);
     }
     if !some_safe(mines) {
-        return 24;
+        return Err(Refusal::AllMines);
     }
-    0
+    Ok(())
 }
 
 // The board check: 20 to 24, without shown board or bits.
-pub fn board_check(rows: u8, columns: u8, mines: &[i8]) -> u16
-    ensures { result ≡ board_check rows columns mines.now }
+pub fn board_check(rows: u8, columns: u8, mines: &[i8]) -> Result<(), Refusal>
+    ensures { found_number result ≡ board_check rows columns mines.now }
 {
     let fit = mines.len() == cell_count(rows, columns);
     board_refusal(rows, columns, fit, mines)
@@ -159,26 +146,28 @@ fn place_of(columns: u8, cell: usize) -> Place
     requires { (1 ≤ columns) × (cell ≤ 64 * columns) }
     ensures { result ≡ place_of columns cell }
 {
-    let c = cells::wide(columns);
+    let c = usize::from(columns);
     let row = (cell / c) as u8;
     let column = (cell % c) as u8;
     Place::At { row, column }
 }
 
 // The faulty cell beside 22 and 23. It is searched for again: a board that is accepted pays nothing.
-pub fn fault_of(rows: u8, columns: u8, mines: &[i8], n: u16) -> Place
-    requires { Placeable rows columns mines.now n }
-    ensures { result ≡ fault_of rows columns mines.now n }
+pub fn fault_of(rows: u8, columns: u8, mines: &[i8], refusal: Refusal) -> Place
+    requires { Placeable rows columns mines.now (refusal_number refusal) }
+    ensures { result ≡ fault_of rows columns mines.now (refusal_number refusal) }
 {
-    if n == 22 {
-        let cell = value_fault(mines);
-        return place_of(columns, cell);
+    match refusal {
+        Refusal::Value => {
+            let cell = value_fault(mines);
+            place_of(columns, cell)
+        }
+        Refusal::Number => {
+            let cell = number_fault(mines, usize::from(rows), usize::from(columns));
+            place_of(columns, cell)
+        }
+        _ => Place::Nowhere,
     }
-    if n == 23 {
-        let cell = number_fault(mines, cells::wide(rows), cells::wide(columns));
-        return place_of(columns, cell);
-    }
-    Place::Nowhere
 }
 
 // How many cells are safe.
@@ -188,12 +177,10 @@ pub fn safe_cells(mines: &[i8]) -> u32
     ensures { result ≡ safe_in mines.now }
 {
     let mut n = 0;
-    let mut i = 0;
-    while i < mines.len() {
+    for i in 0..mines.len() {
         let f = cells::face_at(mines, i);
-        let one = cells::one_if(f != 15);
+        let one = u32::from(f != 15);
         n += one;
-        i += 1;
     }
     n
 }
@@ -205,8 +192,8 @@ pub fn fresh_desk(s: Settings, mines: &[i8], shown: &mut [u8], bits: &mut [u8]) 
     requires bits_len { length bits.old ≡ bit_bytes (cells_in s) }
     ensures { desk result shown.new bits.new ≡ fresh_desk s mines.now }
 {
-    cells::fill(&mut *shown, 10);
-    cells::fill(&mut *bits, 0);
+    shown.fill(10);
+    bits.fill(0);
     let safe = safe_cells(mines);
     rules::fresh(s, safe)
 }

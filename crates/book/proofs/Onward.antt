@@ -2,11 +2,11 @@
 use mathlib.Core.Path.{◌≡◌, ◌∙◌, sym, ap, ap₂, refl, subst⁻¹}
 use mathlib.Core.Bool.{true}
 use mathlib.Core.List.{List, ◌++◌}
-use Prim.Native.Nat.{ℕ, ◌+◌, ◌*◌, ◌<◌, ◌≤◌}
+use Prim.Native.Nat.{ℕ, ◌+◌, ◌<◌, ◌≤◌}
 use native.Mathlib.Omega.{arith}
 use lib.Dec.{eqb}
 use lib.ListN.{length, take, drop, length-append, get_or-append}
-use lib.Seq.{get_or-drop, get_or-take, length-take-le, take_at}
+use lib.Seq.{get_or-drop, get_or-take, length-take-le}
 use Rattle.rules.specs.declared.Settings.{Settings}
 use Rattle.rules.specs.declared.Book.{Book}
 use Rattle.rules.specs.Words.{pick, every}
@@ -14,11 +14,11 @@ use Rattle.rules.specs.Grid.{size_ok}
 use Rattle.rules.specs.Board.{mine_ok}
 use Rattle.rules.specs.Mouse.{rules_ok}
 use Rattle.rules.specs.Calls.{mode_ok}
-use Rattle.rules.specs.Book.{byte_at, word_at, rules_at, settings_at, mine_count_at, refused_book, sections_of, events_end, book_ends, book_of}
+use Rattle.rules.specs.Book.{byte_at, word_at, rules_at, settings_at, mine_count_at, refused_book, sections_of, events_end, book_of}
 use Rattle.cells.proofs.Words.{every_same}
 use Rattle.book.specs.Laid.{SettingsLaid, LaidFrom, read_from, event_count_at, end_at}
 use Rattle.book.proofs.Reading.{end_over, end_right}
-use Rattle.book.proofs.Accepting.{sections_laid, sections_read, accepted_laid, laid_read, end_passed, sections_fit}
+use Rattle.book.proofs.Accepting.{sections_laid, sections_read, accepted_laid, end_passed, sections_fit}
 use Rattle.book.proofs.Writing.{mine_same}
 
 -- ---- two byte strings that agree on their first n bytes ----------------------------------------------------------------------------------

@@ -1,14 +1,17 @@
 // The reader of the game book: what a byte string says as a book, and the parts of it that hold the mines and the event records.
 // The contracts cite the format of rules/specs/Book.antt and the parts of specs/Parts.antt; every function takes every byte string.
+// Each section answers a `Book`, refused or not, as its definition does (`events_from`, `mines_section`, `sections_of`): a `Result` between them
+// would have to be taken back into a `Book` in every contract.
 #![tactic(auto)]
 
 ghost use Rattle.std.specs.Prelude.{◌≡◌, ◌<◌, ◌≤◌, ◌+◌, ◌*◌, length};
 ghost use Rattle.rules.specs.Grid.{cell_of};
+ghost use Rattle.rules.specs.Refusals.{refusal_number};
 ghost use Rattle.rules.specs.Book.{word_at, refused_book, rules_at, mine_count_at, events_from, mines_section, sections_of, book_ends, book_of, part_of};
 ghost use Rattle.book.specs.Parts.{mine_fits};
 ghost use Rattle.book.specs.Laid.{Counted};
 
-use rules::{Book, Settings};
+use rules::{Book, Refusal, Settings};
 
 // The most events a book may have.
 pub const MOST: usize = 8192;
@@ -21,9 +24,10 @@ fn word_at(s: &[u8], at: usize) -> usize
     requires { at + 2 ≤ length s.now }
     ensures { (result ≡ word_at s.now at) × (result < 65536) }
 {
-    cells::wide(s[at]) + 256 * cells::wide(s[at + 1])
+    usize::from(s[at]) + 256 * usize::from(s[at + 1])
 }
 
+// No book: the number of why, and at which byte.
 pub fn refused(number: u16, place: usize) -> Book
     ensures { result ≡ refused_book number place }
 {
@@ -45,11 +49,18 @@ pub fn refused(number: u16, place: usize) -> Book
     }
 }
 
-// The number of a cell.
+// The same, by the refusal's name.
+pub fn refuse(refusal: Refusal, place: usize) -> Book
+    ensures { result ≡ refused_book (refusal_number refusal) place }
+{
+    refused(u16::from(refusal), place)
+}
+
+// The number of a cell: as in `mouse`, which does not lie below.
 fn cell(row: u8, column: u8, columns: u8) -> usize
     ensures { (result ≡ cell_of columns row column) × (result < 65536) }
 {
-    cells::wide(row) * cells::wide(columns) + cells::wide(column)
+    usize::from(row) * usize::from(columns) + usize::from(column)
 }
 
 // Is a mine on the board, and its cell not before `next`?
@@ -71,16 +82,16 @@ fn read_events(s: &[u8], at: usize, settings: Settings, mines_at: usize, mines: 
     ensures { result ≡ events_from s.now at settings mines_at mines }
 {
     if s.len() < at + 2 {
-        return refused(40, s.len());
+        return refuse(Refusal::Short, s.len());
     }
     let n = word_at(s, at);
     if MOST < n {
-        return refused(44, at);
+        return refuse(Refusal::TooMany, at);
     }
     let first = at + 2;
     let end = first + 3 * n;
     if s.len() < end {
-        return refused(40, s.len());
+        return refuse(Refusal::Short, s.len());
     }
     Book {
         number: 0,
@@ -98,33 +109,29 @@ fn read_mines(s: &[u8], at: usize, settings: Settings) -> Book
     requires { at ≤ length s.now }
     ensures { result ≡ mines_section s.now at settings }
 {
-    let rows = settings.rows;
-    let columns = settings.columns;
+    let Settings { rows, columns, .. } = settings;
     if s.len() < at + 2 {
-        return refused(40, s.len());
+        return refuse(Refusal::Short, s.len());
     }
     let mines = word_at(s, at);
-    if cells::wide(rows) * cells::wide(columns) <= mines {
-        return refused(24, at);
+    if usize::from(rows) * usize::from(columns) <= mines {
+        return refuse(Refusal::AllMines, at);
     }
     let from = at + 2;
-    let mut place = from;
     let mut next = 0usize;
-    let mut n = 0usize;
-    while n < mines {
+    for n in 0..mines {
+        let place = from + 2 * n;
         if s.len() < place + 2 {
-            return refused(40, s.len());
+            return refuse(Refusal::Short, s.len());
         }
         let row = s[place];
         let column = s[place + 1];
         if !mine_fits(row, column, rows, columns, next) {
-            return refused(42, place);
+            return refuse(Refusal::MineList, place);
         }
         next = cell(row, column, columns) + 1;
-        place += 2;
-        n += 1;
     }
-    read_events(s, place, settings, from, mines)
+    read_events(s, from + 2 * mines, settings, from, mines)
 }
 
 // The rules number of settings whose bytes are there: 1 unless a fifth byte has it.
@@ -132,10 +139,7 @@ fn rules_at(s: &[u8]) -> u8
     requires { Counted s.now }
     ensures { result ≡ rules_at s.now }
 {
-    if s[0] == 5 {
-        return s[5];
-    }
-    1
+    if s[0] == 5 { s[5] } else { 1 }
 }
 
 // The settings, whose bytes are there up to the mine count at `at`, and what follows them.
@@ -153,16 +157,16 @@ fn read_settings(s: &[u8], at: usize) -> Book
     let mode_right = cells::mode_ok(mode);
     let rules_right = cells::rules_ok(rules);
     if !question_right {
-        return refused(41, 4);
+        return refuse(Refusal::Byte, 4);
     }
     if !size_right {
-        return refused(20, 1);
+        return refuse(Refusal::Size, 1);
     }
     if !mode_right {
-        return refused(25, 3);
+        return refuse(Refusal::Mode, 3);
     }
     if !rules_right {
-        return refused(45, 5);
+        return refuse(Refusal::Rules, 5);
     }
     let settings = Settings {
         rows,
@@ -179,15 +183,15 @@ pub fn read_sections(s: &[u8]) -> Book
     ensures { result ≡ sections_of s.now }
 {
     if s.len() < 1 {
-        return refused(40, s.len());
+        return refuse(Refusal::Short, s.len());
     }
     let count = s[0];
     if !((count == 4) | (count == 5)) {
-        return refused(41, 0);
+        return refuse(Refusal::Byte, 0);
     }
-    let at = 1 + cells::wide(count);
+    let at = 1 + usize::from(count);
     if s.len() < at {
-        return refused(40, s.len());
+        return refuse(Refusal::Short, s.len());
     }
     read_settings(s, at)
 }
@@ -200,7 +204,7 @@ pub fn ended(s: &[u8], end: usize, b: Book) -> Book
         return b;
     }
     if end < s.len() {
-        return refused(43, end);
+        return refuse(Refusal::Surplus, end);
     }
     b
 }
@@ -214,15 +218,18 @@ pub fn read_book(s: &[u8]) -> Book
     ended(s, end, b)
 }
 
-// `n` bytes of `s` from `at` on, without a copy; none where they do not fit.
-fn part(s: &[u8], at: usize, n: usize) -> &[u8]
-    ensures { result.now ≡ part_of s.now at n }
+// The bytes of `count` records of so many bytes each, from `at` on, without a copy; none where they do not fit.
+fn part(s: &[u8], at: usize, size: usize, count: usize) -> &[u8]
+    ensures { result.now ≡ part_of s.now at (size * count) }
 {
+    let Some(n) = size.checked_mul(count) else {
+        return &s[..0];
+    };
     if s.len() < at {
-        return &s[0..0];
+        return &s[..0];
     }
     if s.len() - at < n {
-        return &s[0..0];
+        return &s[..0];
     }
     let end = at + n;
     &s[at..end]
@@ -232,22 +239,12 @@ fn part(s: &[u8], at: usize, n: usize) -> &[u8]
 pub fn mines(s: &[u8], b: Book) -> &[u8]
     ensures { result.now ≡ part_of s.now b.mines_at (2 * b.mines) }
 {
-    let at = b.mines_at;
-    let n = b.mines;
-    if s.len() / 2 < n {
-        return &s[0..0];
-    }
-    part(s, at, 2 * n)
+    part(s, b.mines_at, 2, b.mines)
 }
 
 // The event records of a book, three bytes each; none where the numbers of `b` do not fit `s`.
 pub fn events(s: &[u8], b: Book) -> &[u8]
     ensures { result.now ≡ part_of s.now b.events_at (3 * b.events) }
 {
-    let at = b.events_at;
-    let n = b.events;
-    if s.len() / 3 < n {
-        return &s[0..0];
-    }
-    part(s, at, 3 * n)
+    part(s, b.events_at, 3, b.events)
 }

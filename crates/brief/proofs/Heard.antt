@@ -2,12 +2,14 @@
 use mathlib.Core.Path.{◌≡◌, ◌∙◌, sym, ap, refl}
 use mathlib.Core.Bool.{Bool, true, ◌&&◌}
 use mathlib.Core.List.{List}
+use Rattle.std.specs.Prelude.{Option, Some, None}
 use Prim.Native.Nat.{ℕ, zero, suc, ◌<◌}
 use native.Mathlib.Omega.{arith}
 use borrow.Author.Tests.{lt-ltb, ltb-true}
 use lib.Dec.{ltb}
 use lib.IntN.{ℤ}
 use Rattle.rules.specs.declared.Position.{Position}
+use Rattle.rules.specs.declared.Played.{Played}
 use Rattle.rules.specs.declared.Pointer.{Pointer}
 use Rattle.rules.specs.declared.Event.TheVariants.{Mv}
 use Rattle.rules.specs.declared.GameState.{GameState}
@@ -18,8 +20,6 @@ use Rattle.rules.specs.Mouse.{resolved, flipped}
 use Rattle.rules.specs.Step.{bad_pre_flag, errs_pre_flaging, errs_playing, event_refusal, ready, pre_flaging, playing, by_game, event_of, plain_of, refusal_at, counts, play_at, step_at}
 use Rattle.cells.proofs.Words.{and_left, and_right}
 use Rattle.keep.proofs.Passes.{playing_is}
-use Rattle.brief.specs.declared.Brief.{Brief}
-use Rattle.brief.specs.declared.Brief.TheVariants.{Done, Other}
 use Rattle.brief.specs.Briefly.{Plainly, Briefly}
 
 -- ---- the codes below 5 are plain, and leave the middle flag -----------------------------------------------------------------------------
@@ -93,9 +93,9 @@ module _ (B : List ℤ) (code : ℕ) (x : Pointer) (p : Position) (shown bits : 
         steps (omega arith) (ap (λ (g : GameState). event_refusal g (event_of code x) d) game_is ∙ button_heard code x d c) o
         (h ∙ ap (λ (g : GameState). by_game g B (event_of code x) d) (sym game_is))
 
-    pub button_briefly : (r : Brief) (shown' bits' : List ℕ) → Plainly (playing B (event_of code x)) p shown bits r shown' bits' → Briefly B code x p shown bits r shown' bits'
-    button_briefly (Done o) shown' bits' h = button_steps (done o.answer (desk o.position shown' bits')) h
-    button_briefly Other shown' bits' h = h
+    pub button_briefly : (r : Option Played) (shown' bits' : List ℕ) → Plainly (playing B (event_of code x)) p shown bits r shown' bits' → Briefly B code x p shown bits r shown' bits'
+    button_briefly (Some o) shown' bits' h = button_steps (done o.answer (desk o.position shown' bits')) h
+    button_briefly None shown' bits' h = h
 
   pub move_steps : code ≡ 4 → counts d (done 0 d) ≡ step_at B code x d
   unfolding event_of

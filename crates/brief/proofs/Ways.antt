@@ -2,6 +2,7 @@
 use mathlib.Core.Path.{◌≡◌, ◌∙◌, refl, sym, ap}
 use mathlib.Core.Bool.{Bool, true, false, ◌||◌, true≢false}
 use mathlib.Core.List.{List}
+use Rattle.std.specs.Prelude.{Option, Some, None}
 use Prim.Native.Nat.{ℕ, ◌*◌, ◌/◌, ◌<◌}
 use native.Mathlib.Omega.{arith}
 use borrow.Author.Tests.{eq-eqb, ne_eqb}
@@ -26,8 +27,6 @@ use Rattle.cells.proofs.Grid.{cell_lt}
 use Rattle.clicks.specs.Parts.{NumberAt}
 use Rattle.keep.specs.Kept.{LawfulAt, Inside}
 use Rattle.keep.proofs.Able.{lawful_room}
-use Rattle.brief.specs.declared.Brief.{Brief}
-use Rattle.brief.specs.declared.Brief.TheVariants.{Done, Other}
 use Rattle.brief.specs.Briefly.{Plainly}
 
 pub on_board : (s : Settings) (row column : ℕ) → Inside s (Cell row column) → cell_of s.columns row column < s.rows * s.columns
@@ -110,30 +109,33 @@ module _ (B : List ℤ) (row column i : ℕ) (p : Position) (at : i ≡ cell_of 
 
   module _ (f : ℕ) (own : f ≡ face_at B i) (n : (f ≡ 0 → ⊥) × (f ≡ 15 → ⊥)) (mined : Mined B p.settings.rows p.settings.columns) (o : Inside p.settings (Cell row column)) where
     -- whether it is lone is asked by its row and column
-    module _ (r c : ℕ) (er : r ≡ row) (ec : c ≡ column) where
+    module _ (R C r c : ℕ) (eR : R ≡ p.settings.rows) (eC : C ≡ p.settings.columns) (er : r ≡ row) (ec : c ≡ column) where
       here : cell_of p.settings.columns r c ≡ i
       here = rw (er, ec) (sym at)
 
-      pub lone_asks : Mined B p.settings.rows p.settings.columns
-          × (((r < p.settings.rows) × (c < p.settings.columns))
-          × ((face_at B (cell_of p.settings.columns r c) ≡ 0 → ⊥) × (face_at B (cell_of p.settings.columns r c) ≡ 15 → ⊥)))
-      lone_asks = let e = own ∙ sym (ap (face_at B) here) in (mined, (rw (er, ec) o, ((λ z. n.0 (e ∙ z)), (λ z. n.1 (e ∙ z)))))
+      pub lone_asks : Mined B R C × (((r < R) × (c < C)) × ((face_at B (cell_of C r c) ≡ 0 → ⊥) × (face_at B (cell_of C r c) ≡ 15 → ⊥)))
+      lone_asks = rw (eR, eC) (asked)
+        where
+          asked : Mined B p.settings.rows p.settings.columns
+              × (((r < p.settings.rows) × (c < p.settings.columns))
+              × ((face_at B (cell_of p.settings.columns r c) ≡ 0 → ⊥) × (face_at B (cell_of p.settings.columns r c) ≡ 15 → ⊥)))
+          asked = let e = own ∙ sym (ap (face_at B) here) in (mined, (rw (er, ec) o, ((λ z. n.0 (e ∙ z)), (λ z. n.1 (e ∙ z)))))
 
       -- a closed number, where the mouse has moved on
-      pub number_asks : (lone : Bool) → lone ≡ lone_at B p.settings.rows p.settings.columns (cell_of p.settings.columns r c) → (up : Position) → up ≡ moved 1 p → (shown : List ℕ)
+      pub number_asks : (lone : Bool) → lone ≡ lone_at B R C (cell_of C r c) → (up : Position) → up ≡ moved 1 p → (shown : List ℕ)
           → length shown ≡ p.settings.rows * p.settings.columns → RoomAt p shown → get_or shown i 0 ≡ 10 → NumberAt B up.settings shown i f lone × RoomAt up shown
       unfolding moved
       number_asks lone a up d shown b room ten =
           let on : i < p.settings.rows * p.settings.columns = rw at (on_board p.settings row column o) in
-          let alone = a ∙ ap (lone_at B p.settings.rows p.settings.columns) here in
+          let alone = (rw (eR, eC) at a) ∙ ap (lone_at B p.settings.rows p.settings.columns) here in
           rw d (record { mined = mined; board = b; inside = on; closed = ten; own = own; nonzero = n.0; safe = n.1; alone = alone }, room)
 
 -- ---- by the code -----------------------------------------------------------------------------------------------------------------------
 
-pub plainly_by : (f g : Desk → Play) (p : Position) (shown bits : List ℕ) (r : Brief) (shown' bits' : List ℕ) → f (desk p shown bits) ≡ g (desk p shown bits)
+pub plainly_by : (f g : Desk → Play) (p : Position) (shown bits : List ℕ) (r : Option Played) (shown' bits' : List ℕ) → f (desk p shown bits) ≡ g (desk p shown bits)
     → Plainly f p shown bits r shown' bits' → Plainly g p shown bits r shown' bits'
-plainly_by f g p shown bits (Done o) shown' bits' e h = h ∙ e
-plainly_by f g p shown bits Other shown' bits' e h = h
+plainly_by f g p shown bits (Some o) shown' bits' e h = h ∙ e
+plainly_by f g p shown bits None shown' bits' e h = h
 
 module _ (B : List ℤ) (code row column : ℕ) (p : Position) (shown bits : List ℕ) where
   pub code_lc : code ≡ 0 → play_lc (Cell row column) (desk p shown bits) ≡ playing B (event_of code (Cell row column)) (desk p shown bits)

@@ -10,10 +10,13 @@ ghost use Rattle.rules.specs.Step.{left_at, right_at, chord_at, chord_from, play
 ghost use Rattle.cells.specs.Promises.{LaidAt, RoomAt, AbleAt, Plays, Acts};
 ghost use Rattle.keep.specs.Kept.{Inside};
 
-use rules::{Played, Pointer, Position};
+use mouse::Motion;
+pub use mouse::answered;
+use rules::{MouseState, Played, Pointer, Position};
 
 // ---- a click where the pointer is ------------------------------------------------------------------------------------------------------
 
+#[tactic(auto, unfolding(rules::specs::Step::left_at))]
 pub fn left_at(p: Position, x: Pointer, mines: &[i8], shown: &mut [u8], work: &mut [u16]) -> Played
     requires laid_at { LaidAt mines.now p shown.old work.old }
     requires room_at { RoomAt p shown.old }
@@ -22,20 +25,15 @@ pub fn left_at(p: Position, x: Pointer, mines: &[i8], shown: &mut [u8], work: &m
 {
     match x {
         Pointer::Cell { row, column } => {
-            let r = cells::wide(row);
-            let c = cells::wide(column);
+            let r = usize::from(row);
+            let c = usize::from(column);
             clicks::left_click(p, mines, &mut *shown, &mut *work, r, c)
         }
-        Pointer::Off => {
-            let q = clicks::add_left(p);
-            Played {
-                answer: 0,
-                position: q,
-            }
-        }
+        Pointer::Off => answered(clicks::add_left(p)),
     }
 }
 
+#[tactic(auto, unfolding(rules::specs::Step::chord_at))]
 pub fn chord_at(
     p: Position,
     x: Pointer,
@@ -53,13 +51,11 @@ pub fn chord_at(
             let i = mouse::cell(p.settings.columns, row, column);
             hands::chording_click(p, mines, &mut *shown, &mut *bits, &mut *work, i)
         }
-        Pointer::Off => Played {
-            answer: 0,
-            position: p,
-        },
+        Pointer::Off => answered(p),
     }
 }
 
+#[tactic(auto, unfolding(rules::specs::Step::right_at))]
 pub fn right_at(
     p: Position,
     x: Pointer,
@@ -77,21 +73,16 @@ pub fn right_at(
             let i = mouse::cell(p.settings.columns, row, column);
             hands::right_click(p, mines, &mut *shown, &mut *bits, &mut *work, i)
         }
-        Pointer::Off => {
-            let q = marking::add_right(p);
-            Played {
-                answer: 0,
-                position: q,
-            }
-        }
+        Pointer::Off => answered(marking::add_right(p)),
     }
 }
 
 // ---- a button in PreFlaging and Playing ------------------------------------------------------------------------------------------------
 
 // A button goes up in mouse state m; from ChordingNotFlag its right press is taken back.
+#[tactic(auto, unfolding(rules::specs::Step::chord_from))]
 fn chord_from(
-    m: u8,
+    m: MouseState,
     p: Position,
     x: Pointer,
     mines: &[i8],
@@ -101,41 +92,31 @@ fn chord_from(
 ) -> Played
     requires able_at { AbleAt mines.now p shown.old bits.old work.old }
     requires inside { Inside p.settings x }
-    requires le_right { m ≡ 5 → 1 ≤ p.counts.right }
-    ensures { Plays (chord_from mines.now m x) p shown.old bits.old work.old result shown.new bits.new work.new }
+    requires le_right { mouse_number m ≡ 5 → 1 ≤ p.counts.right }
+    ensures { Plays (chord_from mines.now (mouse_number m) x) p shown.old bits.old work.old result shown.new bits.new work.new }
 {
-    if m == 4 {
-        return chord_at(p, x, mines, &mut *shown, &mut *bits, &mut *work);
-    }
-    if m == 5 {
-        let n = p.counts.right - 1;
-        let q = p.with_right(n);
-        return chord_at(q, x, mines, &mut *shown, &mut *bits, &mut *work);
-    }
-    Played {
-        answer: 0,
-        position: p,
+    match m {
+        MouseState::Chording => chord_at(p, x, mines, &mut *shown, &mut *bits, &mut *work),
+        MouseState::ChordingNotFlag => {
+            let q = p.with_right(p.counts.right - 1);
+            chord_at(q, x, mines, &mut *shown, &mut *bits, &mut *work)
+        }
+        _ => answered(p),
     }
 }
 
+#[tactic(auto, unfolding(rules::specs::Step::play_lc, rules::specs::Mouse::moved))]
 pub fn play_lc(p: Position, x: Pointer) -> Played
     requires { p.counts.left ≤ 70000 }
     ensures { (shown bits : List ℕ) → done result.answer (desk result.position shown bits) ≡ play_lc x (desk p shown bits) }
 {
     if mouse::on_cell(x) {
-        let q = mouse::moved(0, p);
-        return Played {
-            answer: 0,
-            position: q,
-        };
+        return mouse::moves(Motion::LeftPress, p);
     }
-    let q = clicks::add_left(p);
-    Played {
-        answer: 0,
-        position: q,
-    }
+    answered(clicks::add_left(p))
 }
 
+#[tactic(auto, unfolding(rules::specs::Step::play_lr, rules::specs::Mouse::moved))]
 pub fn play_lr(
     p: Position,
     x: Pointer,
@@ -149,16 +130,14 @@ pub fn play_lr(
     requires le_right { mouse_number p.mouse ≡ 5 → 1 ≤ p.counts.right }
     ensures { Plays (play_lr mines.now x) p shown.old bits.old work.old result shown.new bits.new work.new }
 {
-    let held = p.mouse;
-    let m = rules::mouse_number(held);
-    if m == 3 {
-        let q = mouse::moved(1, p);
+    let q = mouse::moved(Motion::LeftRelease, p);
+    if p.mouse == MouseState::DownUp {
         return left_at(q, x, mines, &mut *shown, &mut *work);
     }
-    let q = mouse::moved(1, p);
-    chord_from(m, q, x, mines, &mut *shown, &mut *bits, &mut *work)
+    chord_from(p.mouse, q, x, mines, &mut *shown, &mut *bits, &mut *work)
 }
 
+#[tactic(auto, unfolding(rules::specs::Step::play_rr, rules::specs::Mouse::moved))]
 pub fn play_rr(
     p: Position,
     x: Pointer,
@@ -172,38 +151,14 @@ pub fn play_rr(
     requires le_right { mouse_number p.mouse ≡ 5 → 1 ≤ p.counts.right }
     ensures { Plays (play_rr mines.now x) p shown.old bits.old work.old result shown.new bits.new work.new }
 {
-    let held = p.mouse;
-    let m = rules::mouse_number(held);
-    if m != 4 {
-        if m != 5 {
-            let q = mouse::moved(3, p);
-            return Played {
-                answer: 0,
-                position: q,
-            };
-        }
-    }
-    let q = mouse::moved(3, p);
-    chord_from(m, q, x, mines, &mut *shown, &mut *bits, &mut *work)
+    let q = mouse::moved(Motion::RightRelease, p);
+    chord_from(p.mouse, q, x, mines, &mut *shown, &mut *bits, &mut *work)
 }
 
 // ---- an event that changes the position alone ------------------------------------------------------------------------------------------
 
-pub fn answered(p: Position) -> Played
-    ensures { result ≡ record { answer = 0; position = p } }
-{
-    Played {
-        answer: 0,
-        position: p,
-    }
-}
-
 pub fn middled(p: Position, b: bool) -> Played
     ensures { result ≡ record { answer = 0; position = with_middle p b } }
 {
-    let q = p.with_middle(b);
-    Played {
-        answer: 0,
-        position: q,
-    }
+    answered(p.with_middle(b))
 }

@@ -3,6 +3,7 @@
 #![tactic(auto)]
 
 ghost use Rattle.std.specs.Prelude.{◌≡◌, ◌+◌, ◌*◌, ◌≤◌, length};
+ghost use Rattle.rules.specs.Refusals.{refusal_number, found_number};
 ghost use Rattle.rules.specs.Lent.{bit_bytes, work_room};
 ghost use Rattle.rules.specs.Calls.{cells_in, answers, set_up, setup_by};
 ghost use Rattle.cells.specs.Ground.{Mined};
@@ -10,7 +11,7 @@ ghost use Rattle.boards.specs.Faults.{Placeable};
 ghost use Rattle.rules.specs.Promises.{CheckBoardIs, NumberMinesIs, Total3bvIs, SetupIs, ResetIs, CheckPositionIs, StepGameStateIs, BbbvSolvedIs, LeftToSolveIs};
 ghost use Rattle.calls.specs.Parts.{LeftMade};
 
-use rules::{Answer, GameState, Place, Position, Settings, Value};
+use rules::{Answer, GameState, Place, Position, Refusal, Settings, Value};
 
 // An answer that has no place.
 pub fn answer(n: u16, p: Position, v: u32) -> Answer
@@ -24,21 +25,30 @@ pub fn answer(n: u16, p: Position, v: u32) -> Answer
     }
 }
 
+// A refusal that has no place.
+pub fn refused(refusal: Refusal, p: Position) -> Answer
+    ensures { result ≡ answers (refusal_number refusal) p 0 }
+{
+    answer(u16::from(refusal), p, 0)
+}
+
 // ---- the board -------------------------------------------------------------------------------------------------------------------------
 
 // The board check: 20 to 24.
 pub fn check_board(rows: u8, columns: u8, mines: &[i8]) -> Value
     ensures { CheckBoardIs rows columns mines.now result }
 {
-    let n = boards::board_check(rows, columns, mines);
-    refusals::found(rows, columns, mines, n)
+    let found = boards::board_check(rows, columns, mines);
+    refusals::found(rows, columns, mines, found)
 }
 
 // Numbering from a mine list, a row byte and a column byte for each mine.
+// It answers a number and no Result, since NumberMinesIs of rules' Promises and the C interface do.
 pub fn number_mines(rows: u8, columns: u8, list: &[u8], mines: &mut [i8]) -> u16
     ensures { NumberMinesIs rows columns list.now mines.old result mines.new }
 {
-    numbering::number_mines(rows, columns, list, mines)
+    let numbered = numbering::number_mines(rows, columns, list, mines);
+    refusals::number_of(numbered)
 }
 
 // Work comes in as it comes: it is cleared first, and the count gives it back so.
@@ -49,8 +59,8 @@ fn left_on(rows: u8, columns: u8, mines: &[i8], shown: &[u8], work: &mut [u16]) 
 {
     let cells = boards::cell_count(rows, columns);
     cells::clear(&mut *work, 8 * cells + 8);
-    let r = cells::wide(rows);
-    let c = cells::wide(columns);
+    let r = usize::from(rows);
+    let c = usize::from(columns);
     let left = judging::left_to_solve(mines, shown, &mut *work, r, c);
     left as u32
 }
@@ -59,9 +69,8 @@ fn left_on(rows: u8, columns: u8, mines: &[i8], shown: &[u8], work: &mut [u16]) 
 pub fn total_3bv(rows: u8, columns: u8, mines: &[i8], work: &mut [u16]) -> Value
     ensures { Total3bvIs rows columns mines.now work.old result work.new }
 {
-    let n = refusals::total_refusal(rows, columns, mines, &*work);
-    if n != 0 {
-        return refusals::found(rows, columns, mines, n);
+    if let Err(refusal) = refusals::total_refusal(rows, columns, mines, &*work) {
+        return refusals::found(rows, columns, mines, Err(refusal));
     }
     let none = [0u8; 0];
     let total = left_on(rows, columns, mines, &none, &mut *work);
@@ -74,21 +83,21 @@ pub fn total_3bv(rows: u8, columns: u8, mines: &[i8], work: &mut [u16]) -> Value
 
 // ---- setup and reset -------------------------------------------------------------------------------------------------------------------
 
-// The fresh desk; or refusal n, and the position that it gives back.
+// The fresh desk; or the refusal that was found, and the position that it gives back.
 fn set_up(
-    n: u16,
+    found: Result<(), Refusal>,
     otherwise: Position,
     s: Settings,
     mines: &[i8],
     shown: &mut [u8],
     bits: &mut [u8],
 ) -> Answer
-    requires placeable { Placeable otherwise.settings.rows otherwise.settings.columns mines.now n }
-    requires mined { n ≡ 0 → Mined mines.now s.rows s.columns × ((length shown.old ≡ cells_in s) × (length bits.old ≡ bit_bytes (cells_in s))) }
-    ensures { set_up result shown.new bits.new ≡ setup_by n mines.now otherwise s shown.old bits.old }
+    requires placeable { Placeable otherwise.settings.rows otherwise.settings.columns mines.now (found_number found) }
+    requires mined { found_number found ≡ 0 → Mined mines.now s.rows s.columns × ((length shown.old ≡ cells_in s) × (length bits.old ≡ bit_bytes (cells_in s))) }
+    ensures { set_up result shown.new bits.new ≡ setup_by (found_number found) mines.now otherwise s shown.old bits.old }
 {
-    if n != 0 {
-        return refusals::refuse(n, otherwise, mines);
+    if let Err(refusal) = found {
+        return refusals::refuse(refusal, otherwise, mines);
     }
     let p = boards::fresh_desk(s, mines, &mut *shown, &mut *bits);
     answer(0, p, 0)
@@ -98,9 +107,9 @@ fn set_up(
 pub fn setup(settings: Settings, mines: &[i8], shown: &mut [u8], bits: &mut [u8]) -> Answer
     ensures { SetupIs settings mines.now shown.old bits.old result shown.new bits.new }
 {
-    let n = refusals::setup_refusal(settings, mines, &*shown, &*bits);
+    let found = refusals::setup_refusal(settings, mines, &*shown, &*bits);
     let p = rules::fresh(settings, 0);
-    set_up(n, p, settings, mines, &mut *shown, &mut *bits)
+    set_up(found, p, settings, mines, &mut *shown, &mut *bits)
 }
 
 // Reset is setup with the position's own settings.
@@ -108,8 +117,8 @@ pub fn reset(p: Position, mines: &[i8], shown: &mut [u8], bits: &mut [u8]) -> An
     ensures { ResetIs p mines.now shown.old bits.old result shown.new bits.new }
 {
     let s = p.settings;
-    let n = refusals::setup_refusal(s, mines, &*shown, &*bits);
-    set_up(n, p, s, mines, &mut *shown, &mut *bits)
+    let found = refusals::setup_refusal(s, mines, &*shown, &*bits);
+    set_up(found, p, s, mines, &mut *shown, &mut *bits)
 }
 
 // ---- the position ----------------------------------------------------------------------------------------------------------------------
@@ -118,20 +127,19 @@ pub fn reset(p: Position, mines: &[i8], shown: &mut [u8], bits: &mut [u8]) -> An
 pub fn check_position(p: Position, mines: &[i8], shown: &[u8], bits: &[u8]) -> Value
     ensures { CheckPositionIs p mines.now shown.now bits.now result }
 {
-    let n = refusals::check_refusal(p, mines, shown, bits);
-    refusals::found(p.settings.rows, p.settings.columns, mines, n)
+    let found = refusals::check_refusal(p, mines, shown, bits);
+    refusals::found(p.settings.rows, p.settings.columns, mines, found)
 }
 
 // "replay" is 0 and "fail" 1: both give Loss in any state; anything else is 33. It counts no event.
 pub fn step_game_state(p: Position, mines: &[i8], shown: &[u8], bits: &[u8], event: u8) -> Answer
     ensures { StepGameStateIs p mines.now shown.now bits.now event result }
 {
-    let n = refusals::check_refusal(p, mines, shown, bits);
-    if n != 0 {
-        return refusals::refuse(n, p, mines);
+    if let Err(refusal) = refusals::check_refusal(p, mines, shown, bits) {
+        return refusals::refuse(refusal, p, mines);
     }
     if 1 < event {
-        return answer(33, p, 0);
+        return refused(Refusal::Event, p);
     }
     let q = p.with_game(GameState::Loss);
     answer(0, q, 0)
@@ -148,9 +156,8 @@ fn solved(p: Position) -> u32
 pub fn get_bbbv_solved(p: Position, mines: &[i8], shown: &[u8], bits: &[u8]) -> Answer
     ensures { BbbvSolvedIs p mines.now shown.now bits.now result }
 {
-    let n = refusals::check_refusal(p, mines, shown, bits);
-    if n != 0 {
-        return refusals::refuse(n, p, mines);
+    if let Err(refusal) = refusals::check_refusal(p, mines, shown, bits) {
+        return refusals::refuse(refusal, p, mines);
     }
     let both = solved(p);
     answer(0, p, both)
@@ -166,9 +173,8 @@ pub fn left_to_solve(
 ) -> Answer
     ensures { LeftToSolveIs p mines.now shown.now bits.now work.old result work.new }
 {
-    let n = refusals::lent_refusal(p, mines, shown, bits, &*work);
-    if n != 0 {
-        return refusals::refuse(n, p, mines);
+    if let Err(refusal) = refusals::lent_refusal(p, mines, shown, bits, &*work) {
+        return refusals::refuse(refusal, p, mines);
     }
     let left = left_on(
         p.settings.rows,

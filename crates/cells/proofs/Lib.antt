@@ -5,3 +5,4 @@ pub mod Face
 pub mod Filling
 pub mod Stack
 pub mod Contracts
+pub mod Refused

@@ -8,6 +8,7 @@ use native.Mathlib.Omega.{arith}
 use native.Mathlib.Numerals.{add-one}
 use native.Mathlib.Decide.{ℕ_discrete}
 use borrow.Author.Tests.{le-leb}
+use mir.Val.{bool_byte}
 use lib.Dec.{leb}
 use lib.ListN.{length, get_or, set, length-append}
 use lib.Seq.{get_or-set_same, get_or-set_other}
@@ -35,6 +36,11 @@ and_both false b e d = absurd (false≢true e)
 pub bit_le : (b : Bool) → bit b ≤ 1
 bit_le true = omega arith
 bit_le false = omega arith
+
+-- a yes or no as a number is its bit
+pub byte_bit : (b : Bool) {n : ℕ} → n ≡ bool_byte b → (n ≡ bit b) × (n ≤ 1)
+byte_bit true e = (e, omega arith)
+byte_bit false e = (e, omega arith)
 
 pub is_bit : (b : Bool) {n : ℕ} → n ≡ bit b → n ≤ 1
 is_bit b e = rw e (bit_le b)
@@ -239,10 +245,15 @@ stack_below m w (suc n) b i h = go (ℕ_discrete i n) (stack_below m w n b.1 i)
     go (yes d) rec = rw d b.0
     go (no d) rec = rec (omega arith)
 
-pub below_stack : (m : ℕ) (w : List ℕ) (n : ℕ) → ((i : ℕ) → i < n → get_or w i 0 < m) → Below m (stack_of w n)
-unfolding stack_of
-below_stack m w zero h = tt
-below_stack m w (suc n) h = (h n (omega arith), below_stack m w n (λ i l. h i (omega arith)))
+-- the entries of a list of cells are cells
+pub below_at : (m : ℕ) (w : List ℕ) → Below m w → (i : ℕ) → i < length w → get_or w i 0 < m
+below_at m [] b i h = absurd (omega arith)
+below_at m (x ∷ w) b zero h = b.0
+below_at m (x ∷ w) b (suc i) h = below_at m w b.1 i (omega arith)
+
+pub below_list : (m : ℕ) (w : List ℕ) → ((i : ℕ) → i < length w → get_or w i 0 < m) → Below m w
+below_list m [] h = tt
+below_list m (x ∷ w) h = (h 0 (omega arith), below_list m w (λ i l. h (suc i) (omega arith)))
 
 -- ---- rounds ----------------------------------------------------------------------------------------------------------------------------
 

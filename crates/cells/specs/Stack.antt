@@ -1,6 +1,10 @@
 -- A stack in lent work: what pushing leaves of the list that holds it.
-use Rattle.std.specs.Prelude.{◌≡◌, List, ℕ, ◌+◌, ◌≤◌, get_or}
+use Rattle.std.specs.Prelude.{◌≡◌, List, ℕ, ◌+◌, ◌≤◌, length, get_or}
 use Rattle.rules.specs.Words.{stack_of}
+
+-- a list of cells as a stack: its last cell on top
+abbrev pub stacked : List ℕ → List ℕ
+stacked cells = stack_of cells (length cells)
 
 -- w' agrees with w from n on
 abbrev pub Rest : ℕ → List ℕ → List ℕ → Type 0

@@ -2,8 +2,7 @@
 // A cell is given by its row and column, which its caller takes apart once. The contracts cite rules' Grid and Board, and specs/Ground.
 #![tactic(auto)]
 
-ghost use Rattle.std.specs.Prelude.{◌≡◌, ◌++◌, ℕ, ◌+◌, ◌*◌, ◌/◌, ◌%◌, ◌<◌, ◌≤◌, eqb, leb, length, get_or, drop, replicate};
-ghost use Rattle.rules.specs.Words.{bit};
+ghost use Rattle.std.specs.Prelude.{◌≡◌, Bool, ◌++◌, ℕ, ◌+◌, ◌*◌, ◌/◌, ◌%◌, ◌<◌, ◌≤◌, eqb, leb, length, get_or, drop, replicate};
 ghost use Rattle.rules.specs.Grid.{size_ok, cell_of, ninth, cell_before, around};
 ghost use Rattle.rules.specs.Board.{face_at};
 ghost use Rattle.rules.specs.Mouse.{rules_ok};
@@ -90,16 +89,6 @@ pub struct Around {
     pub closed: u8,
 }
 
-// 1 for yes, 0 for no.
-fn bit_of(b: bool) -> u8
-    ensures { (result ≡ bit b) × (result ≤ 1) }
-{
-    if b {
-        return 1;
-    }
-    0
-}
-
 // One neighbour more is looked at; off the board nothing is shown.
 fn see(shown: &[u8], q: usize, past: Around) -> Around
     requires { (past.flags < 8) × (past.closed < 8) }
@@ -112,19 +101,19 @@ fn see(shown: &[u8], q: usize, past: Around) -> Around
     if v == 11 {
         return Around {
             flags: past.flags + 1,
-            closed: past.closed,
+            ..past
         };
     }
     if v == 10 {
         return Around {
-            flags: past.flags,
             closed: past.closed + 1,
+            ..past
         };
     }
     past
 }
 
-// The flags and the closed cells around a cell, each place tested for being on the board.
+// The flags and the closed cells around a cell, each place tested for being on the board: both in one pass, as `edge_faces` counts one face.
 fn edge_around(shown: &[u8], rows: usize, columns: usize, row: usize, column: usize) -> Around
     requires sized { Sized rows columns }
     requires row_lt_rows { (row < rows) × (column < columns) }
@@ -141,20 +130,29 @@ fn edge_around(shown: &[u8], rows: usize, columns: usize, row: usize, column: us
     seen
 }
 
-// How many of the eight cells around the middle of nine show v: no place is tested, and there is no branch.
+// How many of the eight cells around the middle of nine pass a test: no place is tested for being on the board, and there is no branch.
+fn ring_count<F: Fn(usize) -> bool>(columns: usize, first: usize, test: F) -> u8
+    requires columns_bound { (columns ≤ 64) × (first ≤ 2048) }
+    requires callable { (k : ℕ) → k < 8 → F.pre test (ring_at columns first k) }
+    ensures few { result ≤ 8 }
+    ensures counted { (p : ℕ → Bool) → ((k : ℕ) → k < 8 → (b : Bool) → F.post test (ring_at columns first k) b → b ≡ p (ring_at columns first k)) → result ≡ ring columns p first }
+{
+    let mut n: u8 = 0;
+    for k in 0..8 {
+        let q = ring_at(columns, first, k);
+        n += u8::from(test(q));
+    }
+    n
+}
+
+// How many of these show v.
 pub fn ring_shows(shown: &[u8], columns: usize, first: usize, v: u8) -> u8
     requires columns_bound { columns ≤ 64 }
     requires columns_in_bounds { first + 2 * columns + 2 < length shown.now }
     requires shown_len_bound { length shown.now ≤ 2048 }
     ensures { result ≡ ring columns (λ (q : ℕ). eqb (get_or shown.now q 0) v) first }
 {
-    let mut n: u8 = 0;
-    for k in 0..8 {
-        let q = ring_at(columns, first, k);
-        let one = bit_of(shown[q] == v);
-        n += one;
-    }
-    n
+    ring_count(columns, first, |q| shown[q] == v)
 }
 
 // The flags and the closed cells around a cell.
@@ -173,18 +171,12 @@ pub fn shown_around(shown: &[u8], rows: usize, columns: usize, row: usize, colum
     edge_around(shown, rows, columns, row, column)
 }
 
-// 1 for a cell of the board whose face is f, else 0.
-fn has_face(mines: &[i8], q: usize, f: u8) -> u8
+// A cell of the board whose face is f; off the board there is none.
+fn has_face(mines: &[i8], q: usize, f: u8) -> bool
     requires { Valued mines.now }
-    ensures { result ≡ bit (face_is mines.now f q) }
+    ensures { result ≡ face_is mines.now f q }
 {
-    if mines.len() <= q {
-        return 0;
-    }
-    if face_at(mines, q) == f {
-        return 1;
-    }
-    0
+    q < mines.len() && face_at(mines, q) == f
 }
 
 // How many neighbours of a cell have the face f, each place tested for being on the board.
@@ -197,7 +189,7 @@ fn edge_faces(mines: &[i8], rows: usize, columns: usize, row: usize, column: usi
     let mut n: u8 = 0;
     for k in 0..8 {
         let q = neighbour_at(rows, columns, row, column, k);
-        let one = has_face(mines, q, f);
+        let one = u8::from(has_face(mines, q, f));
         n += one;
     }
     n
@@ -211,17 +203,11 @@ fn ring_faces(mines: &[i8], columns: usize, first: usize, f: u8) -> u8
     requires valued { Valued mines.now }
     ensures { (result ≡ ring columns (face_is mines.now f) first) × (result ≤ 8) }
 {
-    let mut n: u8 = 0;
-    for k in 0..8 {
-        let q = ring_at(columns, first, k);
-        let face = face_at(mines, q);
-        let one = bit_of(face == f);
-        n += one;
-    }
-    n
+    ring_count(columns, first, |q| face_at(mines, q) == f)
 }
 
 // One of the eight around the middle of nine is a 0. There is no branch: the compiler makes three instructions of each.
+// A loop of its own, for speed: `1 <= ring_faces(..)` counts the bits too, and `zero_beside` was 4 % slower by it.
 fn ring_zero(mines: &[i8], columns: usize, first: usize) -> bool
     requires columns_bound { columns ≤ 64 }
     requires columns_in_bounds { first + 2 * columns + 2 < length mines.now }
@@ -277,11 +263,7 @@ pub fn zero_beside(mines: &[i8], rows: usize, columns: usize, row: usize, column
 pub fn fill(bytes: &mut [u8], v: u8)
     ensures { bytes.new ≡ replicate (length bytes.old) v }
 {
-    let mut i = 0;
-    while i < bytes.len() {
-        bytes[i] = v;
-        i += 1;
-    }
+    bytes.fill(v);
 }
 
 // The first n entries become 0.
@@ -289,41 +271,16 @@ pub fn clear(work: &mut [u16], n: usize)
     requires { n ≤ length work.old }
     ensures { work.new ≡ replicate n 0 ++ drop n work.old }
 {
-    for i in 0..n {
-        work[i] = 0;
-    }
+    work[..n].fill(0);
 }
 
 // ---- numbers ---------------------------------------------------------------------------------------------------------------------------
-
-pub fn wide(x: u8) -> usize
-    ensures { (result ≡ x) × (result < 256) }
-{
-    x as usize
-}
-
-// A cell out of a list or a stack of cells.
-pub fn index(x: u16) -> usize
-    ensures { result ≡ x }
-{
-    x as usize
-}
-
-// 1 for yes, 0 for no.
-pub fn one_if(b: bool) -> u32
-    ensures { (result ≡ bit b) × (result ≤ 1) }
-{
-    if b {
-        return 1;
-    }
-    0
-}
 
 // Rows and columns 1 to 64, and at most 2,048 cells.
 pub fn size_ok(rows: u8, columns: u8) -> bool
     ensures { result ≡ size_ok rows columns }
 {
-    let cells = wide(rows) * wide(columns);
+    let cells = usize::from(rows) * usize::from(columns);
     (1 <= rows) & ((rows <= 64) & ((1 <= columns) & ((columns <= 64) & (cells <= 2048))))
 }
 

@@ -31,22 +31,15 @@ pub fn check_book(s: &[u8]) -> Verdict
 fn is_ended(g: GameState) -> bool
     ensures { result ≡ is_ended g }
 {
-    match g {
-        GameState::Ready => false,
-        GameState::Playing => false,
-        GameState::Win => true,
-        GameState::Loss => true,
-        GameState::PreFlaging => false,
-    }
+    matches!(g, GameState::Win | GameState::Loss)
 }
 
-fn refused(v: Verdict) -> Claim
-    ensures { result ≡ unclaimed v }
+fn refused(verdict: Verdict) -> Claim
+    ensures { result ≡ unclaimed verdict }
 {
-    let section = [0u8; 38];
     Claim {
-        verdict: v,
-        section,
+        verdict,
+        section: [0; 38],
     }
 }
 
@@ -67,13 +60,11 @@ pub fn claim_book(s: &[u8]) -> Claim
         let number = p.events + 1;
         return refused(Verdict::EventRefused { event: number });
     }
-    let g = p.game;
-    if !is_ended(g) {
+    if !is_ended(p.game) {
         return refused(Verdict::NotEnded);
     }
-    let section = claiming::section(p);
     Claim {
         verdict: Verdict::Accepted,
-        section,
+        section: claiming::section(p),
     }
 }

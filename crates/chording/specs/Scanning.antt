@@ -1,5 +1,5 @@
 -- What a scan of the chord pass ensures.
-use Rattle.std.specs.Prelude.{◌≡◌, true, List, ℕ}
+use Rattle.std.specs.Prelude.{true, List, ℕ}
 use Rattle.rules.specs.declared.Position.{Position}
 use Rattle.rules.specs.Clicks.{desk}
 use Rattle.rules.specs.Passes.{Scan}

@@ -15,24 +15,12 @@ ghost use Rattle.chording.specs.Scanning.{yes, scan, Scans};
 
 use rules::{GameState, Position};
 
-// A position, whether this scan opened something, and whether this pass did.
+// A position, whether this scan opened something, and whether this pass did: the parts of the definition `Scan`.
 #[derive(Clone, Copy)]
 pub struct Scanned {
     pub position: Position,
     pub any: bool,
     pub ever: bool,
-}
-
-pub fn playing(g: GameState) -> bool
-    ensures { result ≡ is_playing g }
-{
-    match g {
-        GameState::Ready => false,
-        GameState::Playing => true,
-        GameState::Win => false,
-        GameState::Loss => false,
-        GameState::PreFlaging => false,
-    }
 }
 
 // A chord opened something: yes for the scan and for the pass, and no count of the hand.
@@ -101,12 +89,10 @@ fn useful_from(shown: &[u8], rows: usize, columns: usize, row: usize, from: usiz
     requires shown_len { length shown.now ≡ rows * columns }
     ensures { First (λ (c : ℕ). chord_is_useful rows columns shown.now (cell_of columns row c)) from columns result }
 {
-    let mut column = from;
-    while column < columns {
+    for column in from..columns {
         if chords::useful_at(shown, rows, columns, row, column) {
             return column;
         }
-        column += 1;
     }
     columns
 }
@@ -134,13 +120,11 @@ fn useful_below(shown: &[u8], rows: usize, columns: usize, from: usize) -> usize
     requires shown_len { length shown.now ≡ rows * columns }
     ensures { First (chord_is_useful rows columns shown.now) (from * columns) (rows * columns) result }
 {
-    let mut row = from;
-    while row < rows {
+    for row in from..rows {
         let at = useful_of(shown, rows, columns, row);
         if at < columns {
             return row * columns + at;
         }
-        row += 1;
     }
     rows * columns
 }
@@ -168,8 +152,7 @@ fn chord_one(s: Scanned, mines: &[i8], shown: &mut [u8], work: &mut [u16], cell:
     ensures { Scans (λ (b : List ℕ). chord_one mines.now cell (scan s shown.old b)) work.old result shown.new work.new }
 {
     let p = s.position;
-    let g = p.game;
-    if !playing(g) {
+    if p.game != GameState::Playing {
         return s;
     }
     let o = chords::perform_chord(p, mines, shown, work, cell);
@@ -186,14 +169,15 @@ fn chord_round(s: Scanned, mines: &[i8], shown: &mut [u8], work: &mut [u16]) -> 
     ensures { Scans (λ (b : List ℕ). chord_round mines.now (scan s shown.old b)) work.old result shown.new work.new }
 {
     let position = s.position;
-    let rows = position.settings.rows as usize;
-    let columns = position.settings.columns as usize;
+    let rows = usize::from(position.settings.rows);
+    let columns = usize::from(position.settings.columns);
     let cells = rows * columns;
     let mut t = Scanned {
         position,
         any: false,
         ever: s.ever,
     };
+    // No `for`: the next cell is found on what the chord before it left.
     let mut i = useful_below(shown, rows, columns, 0);
     while i < cells {
         t = chord_one(t, mines, shown, work, i);
@@ -206,11 +190,7 @@ fn chord_round(s: Scanned, mines: &[i8], shown: &mut [u8], work: &mut [u16]) -> 
 pub fn goes_on(opened: bool, p: Position) -> bool
     ensures { result ≡ (opened && is_playing p.game) }
 {
-    if opened {
-        let g = p.game;
-        return playing(g);
-    }
-    false
+    opened && p.game == GameState::Playing
 }
 
 // The chord pass: until a scan opens nothing, or the game is over.
@@ -224,6 +204,7 @@ pub fn chord_pass(p: Position, mines: &[i8], shown: &mut [u8], work: &mut [u16])
         any: false,
         ever: false,
     };
+    // A `loop` with a `break` would say the same in as many lines, and is no plainer.
     let mut go = true;
     while go {
         s = chord_round(s, mines, shown, work);

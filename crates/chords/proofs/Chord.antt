@@ -13,7 +13,7 @@ use Rattle.rules.specs.declared.Secrets.{Secrets}
 use Rattle.rules.specs.Grid.{around}
 use Rattle.rules.specs.Opening.{closed_at, refreshed}
 use Rattle.rules.specs.Judging.{openings_judged, lones}
-use Rattle.rules.specs.Clicks.{Desk, desk, rows_of, columns_of, cells_of, flag_at, chord_is_useful, closed_around, chord_counts, chord_opens, ended, perform_chord}
+use Rattle.rules.specs.Clicks.{Desk, rows_of, columns_of, cells_of, flag_at, chord_is_useful, closed_around, chord_counts, chord_opens, ended, perform_chord}
 use Rattle.cells.specs.Ground.{Valued}
 use Rattle.cells.proofs.Words.{and_right}
 use Rattle.cells.proofs.Grid.{pushed_length, around_le}

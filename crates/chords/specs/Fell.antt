@@ -1,6 +1,6 @@
 -- What a chord does to the room that the next one requires.
 use Rattle.std.specs.Prelude.{◌≡◌, ◌<◌, length}
-use Rattle.rules.specs.Clicks.{Desk, Play, desk, done}
+use Rattle.rules.specs.Clicks.{Desk, Play, done}
 use Rattle.cells.specs.Promises.{closed_in, PassRoomAt}
 
 -- either nothing changed, or the answer is not 0, fewer cells are closed, and what the next chord requires is there

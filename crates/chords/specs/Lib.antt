@@ -1,1 +1,2 @@
 pub mod Fell
+pub mod Collected

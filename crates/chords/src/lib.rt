@@ -2,14 +2,15 @@
 // The contracts cite rules' Clicks.
 #![tactic(auto)]
 
-ghost use Rattle.std.specs.Prelude.{◌≡◌, ◌+◌, ◌*◌, ◌/◌, ◌<◌, ◌≤◌, length};
-ghost use Rattle.rules.specs.Words.{pick, stack_of};
+ghost use Rattle.std.specs.Prelude.{◌≡◌, List, [], ◌∷◌, ◌++◌, ℕ, ◌+◌, ◌*◌, ◌/◌, ◌<◌, ◌≤◌, length, take};
+ghost use Rattle.rules.specs.Cells.{cell_list};
 ghost use Rattle.rules.specs.Grid.{cell_of};
-ghost use Rattle.rules.specs.Opening.{closed_at};
 ghost use Rattle.rules.specs.Clicks.{chord_is_useful, closed_around, chord_counts, perform_chord};
 ghost use Rattle.cells.specs.Ground.{Sized, Below};
+ghost use Rattle.cells.specs.Stack.{stacked};
 ghost use Rattle.cells.specs.Promises.{LaidAt, PassRoomAt, Acts};
-ghost use Rattle.clicks.specs.Parts.{Adds, one_more_of, Collected};
+ghost use Rattle.clicks.specs.Parts.{Adds};
+ghost use Rattle.chords.specs.Collected.{Collected};
 
 use rules::{Cells, Played, Position};
 
@@ -41,53 +42,33 @@ fn chord_is_useful(shown: &[u8], rows: usize, columns: usize, cell: usize) -> bo
     useful_at(shown, rows, columns, cell / columns, cell % columns)
 }
 
-// One cell more, if it shows 10.
-fn add_closed(shown: &[u8], q: usize, mut c: Cells) -> Cells
-    requires q_bound { q ≤ 2048 }
-    requires n_bound { c.n < 8 }
-    ensures { result ≡ pick (closed_at shown.now q) (one_more_of c q) c }
-{
-    if shown.len() <= q {
-        return c;
-    }
-    if shown[q] != 10 {
-        return c;
-    }
-    let i = c.n;
-    c.at[i] = q as u16;
-    c.n = i + 1;
-    c
-}
-
 // The closed neighbours of a cell, in row order.
 fn closed_around(shown: &[u8], rows: usize, columns: usize, cell: usize) -> Cells
     requires sized { Sized rows columns }
     requires cell_bound { cell < rows * columns }
-    ensures { Collected (closed_around rows columns shown.now cell) 8 result }
+    ensures { Collected (closed_around rows columns shown.now cell) 8 (cell_list result) }
 {
     let row = cell / columns;
     let column = cell % columns;
-    let mut c = Cells {
-        at: [0u16; 8],
-        n: 0,
-    };
+    let mut found = Cells::new();
     for k in 0..8 {
         let q = cells::neighbour_at(rows, columns, row, column, k);
-        c = add_closed(shown, q, c);
+        if opening::closed(shown, q) {
+            found.push(q as u16);
+        }
     }
-    c
+    found
 }
 
 // Chorded numbers without a 0 neighbour add to solved_chord, then each opening newly judged.
 fn chord_counts(p: Position, mines: &[i8], shown: &[u8], work: &mut [u16], cells: Cells) -> Position
     requires laid_at { LaidAt mines.now p shown.now work.old }
-    requires n_bound { cells.n ≤ 8 }
-    requires below { Below (p.settings.rows * p.settings.columns) (stack_of cells.at cells.n) }
+    requires below { Below (p.settings.rows * p.settings.columns) (cell_list cells) }
     requires solved_chord_bound { p.secrets.solved_chord ≤ 1000000 }
-    ensures { Adds (chord_counts mines.now (stack_of cells.at cells.n)) p shown.now work.old result work.new }
+    ensures { Adds (chord_counts mines.now (stacked (cell_list cells))) p shown.now work.old result work.new }
 {
-    let rows = p.settings.rows as usize;
-    let columns = p.settings.columns as usize;
+    let rows = usize::from(p.settings.rows);
+    let columns = usize::from(p.settings.columns);
     let lone = lones::lone_cells(mines, rows, columns, cells);
     let judged = judging::op_num_around_cell(mines, shown, work, rows, columns, cells);
     let n = p.secrets.solved_chord + lone as u32 + judged as u32;
@@ -107,8 +88,8 @@ pub fn perform_chord(
     requires pass_room_at { PassRoomAt p shown.old }
     ensures { Acts (perform_chord mines.now cell) p shown.old work.old result shown.new work.new }
 {
-    let rows = p.settings.rows as usize;
-    let columns = p.settings.columns as usize;
+    let rows = usize::from(p.settings.rows);
+    let columns = usize::from(p.settings.columns);
     if !chord_is_useful(shown, rows, columns, cell) {
         return Played {
             answer: 0,

@@ -7,6 +7,7 @@ ghost use Rattle.std.specs.Io.KnownBytes.{Appends};
 ghost use Rattle.rules.specs.Claims.{claim_text_of};
 ghost use Rattle.streams.specs.Streams.{AppendsPart};
 
+use rules::Verdict;
 use std::io;
 use std::io::Write;
 
@@ -25,16 +26,18 @@ fn write_claimed<W: Write>(to: &mut W, s: &[u8]) -> io::Result<()>
     ensures err { OnErr result (AppendsPart (W.contents to.old) (W.contents to.new) (claim_text_of s.now)) }
 {
     let c = checking::claim_book(s);
-    let v = c.verdict;
     let mut out = claiming::claimed_buffer();
-    if claims::number(v) != 0 {
-        let n = verdicts::put_verdict(&mut out, 0, v);
-        return hand(to, s, &out[..n]);
+    match c.verdict {
+        Verdict::Accepted => {
+            let first = writing::put_bytes(&mut out, 0, s);
+            let end = writing::put_bytes(&mut out, first, &c.section);
+            hand(to, s, &out[..end])
+        }
+        v => {
+            let n = verdicts::put_verdict(&mut out, 0, v);
+            hand(to, s, &out[..n])
+        }
     }
-    let section = c.section;
-    let first = writing::put_bytes(&mut out, 0, s);
-    let end = writing::put_bytes(&mut out, first, &section);
-    hand(to, s, &out[..end])
 }
 
 fn main(rt: HostRuntime) -> io::Result<()> {

@@ -1,13 +1,13 @@
 -- Numbers in four bytes each, one after the other: what a loop over them has still to write; and a section that fills its room.
-use mathlib.Core.Path.{◌≡◌, ◌∙◌, sym, ap, refl}
+use mathlib.Core.Path.{◌≡◌, ◌∙◌, ap, refl}
 use mathlib.Core.List.{List, [], ◌∷◌, ◌++◌}
 use Prim.Native.Nat.{ℕ, ◌+◌, ◌<◌, ◌≤◌}
 use native.Mathlib.Omega.{arith}
-use lib.ListN.{length, get_or, drop, replicate}
+use lib.ListN.{length, get_or, take, drop, replicate}
 use Rattle.rules.specs.declared.Position.{Position}
 use Rattle.rules.specs.States.{game_number}
 use Rattle.rules.specs.Printout.{nine_counts}
-use Rattle.rules.specs.Claims.{four, fours, claims_of}
+use Rattle.rules.specs.Claims.{four, fours, ten_values, claims_of}
 use Rattle.writing.specs.Put.{Room, Put}
 use Rattle.writing.proofs.Putting.{each_turn, each_done, put_then, put_over, room_first, room_second}
 
@@ -20,6 +20,9 @@ unfolding fours
 fours_done = each_done four fours refl (λ x xs. refl)
 
 module _ (p : Position) where
+  pub counts_are : {values : List ℕ} → values ≡ ten_values p → take 9 values ≡ nine_counts p
+  counts_are e = ap (take 9) e
+
   parts : List ℕ
   parts = (9 ∷ []) ++ (fours (nine_counts p) ++ (game_number p.game ∷ []))
 

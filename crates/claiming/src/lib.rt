@@ -13,13 +13,7 @@ fn put_four(out: &mut [u8], at: usize, n: u32) -> usize
     requires { Room (four n) at out.old }
     ensures { Put (four n) at out.old out.new result }
 {
-    let bytes = [
-        (n % 256) as u8,
-        (n / 256 % 256) as u8,
-        (n / 65536 % 256) as u8,
-        (n / 16777216 % 256) as u8,
-    ];
-    writing::put_bytes(out, at, &bytes)
+    writing::put_bytes(out, at, &n.to_le_bytes())
 }
 
 fn put_fours(out: &mut [u8], at: usize, ns: &[u32]) -> usize
@@ -27,10 +21,8 @@ fn put_fours(out: &mut [u8], at: usize, ns: &[u32]) -> usize
     ensures { Put (fours ns.now) at out.old out.new result }
 {
     let mut o = at;
-    let mut i = 0;
-    while i < ns.len() {
-        o = put_four(out, o, ns[i]);
-        i += 1;
+    for n in ns {
+        o = put_four(out, o, *n);
     }
     o
 }
@@ -39,24 +31,11 @@ fn put_fours(out: &mut [u8], at: usize, ns: &[u32]) -> usize
 pub fn section(p: Position) -> [u8; 38]
     ensures { result ≡ claims_of p }
 {
-    let g = p.game;
-    let c = p.counts;
-    let k = p.secrets;
-    let counts = [
-        c.left,
-        c.right,
-        c.double,
-        c.lce,
-        k.rce,
-        c.dce,
-        c.flag,
-        k.solved_left,
-        k.solved_chord,
-    ];
+    let values = claims::ten_values(p);
     let mut out = [0u8; 38];
     let first = writing::put_byte(&mut out, 0, 9);
-    let last = put_fours(&mut out, first, &counts);
-    writing::put_byte(&mut out, last, rules::game_number(g));
+    let last = put_fours(&mut out, first, &values[..9]);
+    writing::put_byte(&mut out, last, u8::from(p.game));
     out
 }
 

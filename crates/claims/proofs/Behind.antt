@@ -1,26 +1,26 @@
 -- A book with claims behind it: its sections end where the claims begin, and it is played as the book by itself.
 use mathlib.Core.Path.{◌≡◌, ◌∙◌, sym, ap, ap₂, refl, subst}
 use mathlib.Core.Bool.{Bool, true, false, false≢true}
-use mathlib.Core.List.{List, [], ◌∷◌, ◌++◌}
+use mathlib.Core.List.{List, ◌∷◌, ◌++◌}
 use Prim.Native.Nat.{ℕ, suc, ◌+◌, ◌*◌, ◌<◌, ◌≤◌}
 use native.Mathlib.Omega.{arith}
-use borrow.Author.Tests.{eqb-true, leb-true, eq-eqb, le-leb}
+use borrow.Author.Tests.{eqb-true, leb-true, eq-eqb}
 use lib.Dec.{leb, eqb}
-use lib.ListN.{length, take, drop, length-drop, length-append, take-append-drop}
-use lib.Seq.{take-append-le, drop-append-le, drop-cons, length-take-le}
+use lib.ListN.{length, take, drop, length-drop, take-append-drop}
+use lib.Seq.{take-append-le, drop-append-le, drop-cons}
 use lib.IntN.{ℤ}
 use Rattle.rules.specs.declared.Book.{Book}
 use Rattle.rules.specs.Words.{pick}
 use Rattle.rules.specs.Board.{numbered}
 use Rattle.rules.specs.Clicks.{Play, done}
 use Rattle.rules.specs.Calls.{fresh_desk, plays, last_play}
-use Rattle.rules.specs.Book.{byte_at, or_else, reaches, refused_book, sections_of, events_end, book_ends, book_of, mines_of, events_of}
+use Rattle.rules.specs.Book.{byte_at, or_else, sections_of, events_end, book_ends, book_of, mines_of, events_of}
 use Rattle.rules.specs.Printout.{book_board, book_plays}
-use Rattle.book.proofs.Accepting.{book_within, sections_fit, end_passed}
+use Rattle.book.proofs.Accepting.{book_within, end_passed}
 use Rattle.book.proofs.Reading.{end_right}
 use Rattle.cells.proofs.Words.{pick_both}
 use Rattle.book.proofs.Places.{Placed, or_else_placed, reaches_placed, end_placed, sections_placed}
-use Rattle.book.proofs.Onward.{front_book, more_sections, more_ends, accepted_sections}
+use Rattle.book.proofs.Onward.{front_book}
 use Rattle.rules.specs.Claims.{claims_section, claimed_book_of, book_last}
 use Rattle.claims.proofs.Judging.{section_there, claimed_read}
 

@@ -1,18 +1,16 @@
 -- The section and the claims by cases: one equation for each way that the reader and the comparison go.
 use mathlib.Core.Path.{◌≡◌, ◌∙◌, sym, ap, refl}
-use mathlib.Core.Bool.{Bool, true, false}
+use mathlib.Core.Bool.{Bool, true}
 use mathlib.Core.List.{List}
 use Prim.Native.Nat.{ℕ, ◌+◌, ◌*◌, ◌<◌, ◌≤◌}
 use native.Mathlib.Omega.{arith}
 use borrow.Author.Tests.{le-leb, lt-leb, eq-eqb, ne_eqb, lt-ltb, le-ltb}
-use lib.Dec.{eqb}
 use lib.ListN.{length, get_or}
 use Rattle.rules.specs.declared.Book.{Book}
 use Rattle.rules.specs.Words.{pick, every, first_not}
 use Rattle.rules.specs.Book.{byte_at, refused_book, sections_of, events_end, book_ends}
 use Rattle.cells.proofs.Words.{every_turn}
 use Rattle.cells.proofs.Firsts.{first_none, first_at}
-use Rattle.rules.specs.declared.Verdict.{Verdict}
 use Rattle.rules.specs.declared.Verdict.TheVariants.{Accepted, ClaimDiffers}
 use Rattle.rules.specs.Claims.{claims_section, claimed_book_of, long_at, claim_at, agrees, differing, claims_judged}
 

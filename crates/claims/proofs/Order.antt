@@ -1,17 +1,19 @@
 -- The verdicts by cases, each in its place of the order: one equation for each way out of the checker and of the second program.
 use mathlib.Core.Path.{◌≡◌, ◌∙◌, sym, ap, refl}
-use mathlib.Core.Bool.{Bool, true, false}
+use mathlib.Core.Bool.{Bool, true, false, false≢true}
 use mathlib.Core.List.{List, ◌++◌}
 use Prim.Native.Nat.{ℕ, ◌+◌, ◌<◌, ◌≤◌}
 use native.Mathlib.Omega.{arith}
 use borrow.Author.Tests.{le-leb, lt-leb, eq-eqb, ne_eqb}
 use lib.ListN.{length}
 use Rattle.rules.specs.declared.Book.{Book}
+use Rattle.rules.specs.Words.{pick}
+use lib.Dec.{leb, eqb}
 use Rattle.rules.specs.Book.{byte_at, refused_book, sections_of, events_end, book_of}
 use Rattle.rules.specs.Printout.{book_plays, book_end}
 use Rattle.book.proofs.Reading.{end_over}
 use Rattle.rules.specs.declared.Verdict.{Verdict}
-use Rattle.rules.specs.declared.Verdict.TheVariants.{Accepted, Refused, EventRefused, NotEnded, ClaimDiffers}
+use Rattle.rules.specs.declared.Verdict.TheVariants.{Accepted, Refused, EventRefused, NotEnded}
 use Rattle.rules.specs.Claims.{verdict_number, claims_section, claimed_book_of, ten_values, book_last, events_judged, claims_judged, check_by, check_of, is_ended, claim_by, claim_of, claims_of, verdict_line, claim_text_of}
 use Rattle.claims.proofs.Judging.{section_none, section_count, section_short, section_there, claimed_read, claimed_refused}
 
@@ -98,6 +100,24 @@ module _ (s : List ℕ) (b : Book) (e : b ≡ book_of s) where
       pub claim_done : is_ended (book_end s b).position.game ≡ true → Accepted ≡ claim_of s
       unfolding claim_by events_judged
       claim_done g = sym (simp (eq-eqb b.number 0 z, lt-leb _ _ h, g)) ∙ by_claim
+
+-- a verdict whose number is 0 is Accepted: no refusal of a book has that number
+pub claim_zero : (s : List ℕ) → verdict_number (claim_of s) ≡ 0 → claim_of s ≡ Accepted
+unfolding claim_of claim_by events_judged
+claim_zero s h =
+    go (eqb (book_of s).number 0) refl (leb 20 (book_last s (book_of s)).answer) (is_ended (book_end s (book_of s)).position.game) h
+  where
+    plays : ℕ
+    plays = length (book_plays s (book_of s))
+
+    by : Bool → Bool → Bool → Verdict
+    by t u w = pick t (pick u (EventRefused plays) (pick w Accepted NotEnded)) (Refused (book_of s).number (book_of s).place)
+
+    go : (t : Bool) → eqb (book_of s).number 0 ≡ t → (u w : Bool) → verdict_number (by t u w) ≡ 0 → by t u w ≡ Accepted
+    go true e true w h = absurd (omega arith)
+    go true e false true h = refl
+    go true e false false h = absurd (omega arith)
+    go false e u w h = absurd (false≢true (sym e ∙ eq-eqb _ _ h))
 
 -- what it writes
 module _ (s : List ℕ) where

@@ -5,22 +5,23 @@
 ghost use Rattle.std.specs.Prelude.{◌≡◌, ◌+◌, ◌<◌, ◌≤◌, length};
 ghost use Rattle.rules.specs.Claims.{verdict_number, claims_section, claimed_book_of, long_at, claim_at, ten_values, claims_judged};
 
-use rules::{Book, Position, Verdict};
+use rules::{Book, Position, Refusal, Verdict};
 
 // The claims section at `at`, where the events of the book `b` end.
+#[tactic(auto, unfolding(rules::specs::Claims::claims_section))]
 fn read_claims(s: &[u8], at: usize, b: Book) -> Book
     requires { at ≤ length s.now }
     ensures { result ≡ claims_section s.now at b }
 {
     if s.len() < at + 1 {
-        return book::refused(40, s.len());
+        return book::refuse(Refusal::Short, s.len());
     }
     if s[at] != 9 {
-        return book::refused(80, at);
+        return book::refuse(Refusal::Claims, at);
     }
     let end = at + 38;
     if s.len() < end {
-        return book::refused(40, s.len());
+        return book::refuse(Refusal::Short, s.len());
     }
     book::ended(s, end, b)
 }
@@ -42,41 +43,37 @@ fn long_at(s: &[u8], at: usize) -> u32
     requires { at + 4 ≤ length s.now }
     ensures { result ≡ long_at s.now at }
 {
-    let low = writing::wide(s[at]) + 256 * writing::wide(s[at + 1]);
-    let high = writing::wide(s[at + 2]) + 256 * writing::wide(s[at + 3]);
-    low + 65536 * high
+    u32::from_le_bytes([s[at], s[at + 1], s[at + 2], s[at + 3]])
 }
 
 // Claim number `i`, from 0: the nine counts, then the game state.
+#[tactic(auto, unfolding(rules::specs::Claims::claim_at))]
 fn claim_at(s: &[u8], at: usize, i: usize) -> u32
     requires { (at + 38 ≤ length s.now) × (i < 10) }
     ensures { result ≡ claim_at s.now at i }
 {
     if i < 9 {
-        return long_at(s, at + 1 + 4 * i);
+        long_at(s, at + 1 + 4 * i)
+    } else {
+        u32::from(s[at + 37])
     }
-    writing::wide(s[at + 37])
 }
 
 // What a position says to the ten claims.
-fn ten_values(p: Position) -> [u32; 10]
+pub fn ten_values(p: Position) -> [u32; 10]
     ensures { result ≡ ten_values p }
 {
-    let g = p.game;
-    let c = p.counts;
-    let k = p.secrets;
-    let state = writing::wide(rules::game_number(g));
     [
-        c.left,
-        c.right,
-        c.double,
-        c.lce,
-        k.rce,
-        c.dce,
-        c.flag,
-        k.solved_left,
-        k.solved_chord,
-        state,
+        p.counts.left,
+        p.counts.right,
+        p.counts.double,
+        p.counts.lce,
+        p.secrets.rce,
+        p.counts.dce,
+        p.counts.flag,
+        p.secrets.solved_left,
+        p.secrets.solved_chord,
+        u32::from(u8::from(p.game)),
     ]
 }
 
@@ -86,32 +83,25 @@ pub fn judge(s: &[u8], at: usize, p: Position) -> Verdict
     ensures { result ≡ claims_judged s.now at (ten_values p) }
 {
     let values = ten_values(p);
-    let mut i = 0;
-    while i < 10 {
+    for (i, &is) in values.iter().enumerate() {
         let says = claim_at(s, at, i);
-        let is = values[i];
         if says != is {
             let claim = i as u32 + 1;
             return Verdict::ClaimDiffers { claim, says, is };
         }
-        i += 1;
     }
     Verdict::Accepted
 }
 
-// The number of a verdict: 0, or document 02's.
+// The number of a verdict: 0, or document 02's. It is no `From`, since neither type is of this crate.
 pub fn number(v: Verdict) -> u16
     ensures { result ≡ verdict_number v }
 {
     match v {
         Verdict::Accepted => 0,
-        Verdict::Refused { number, place: _ } => number,
-        Verdict::EventRefused { event: _ } => 81,
+        Verdict::Refused { number, .. } => number,
+        Verdict::EventRefused { .. } => 81,
         Verdict::NotEnded => 82,
-        Verdict::ClaimDiffers {
-            claim: _,
-            says: _,
-            is: _,
-        } => 83,
+        Verdict::ClaimDiffers { .. } => 83,
     }
 }

@@ -5,12 +5,11 @@ use mathlib.Core.List.{List, [], ◌∷◌}
 use Prim.Native.Nat.{ℕ, ◌+◌, ◌*◌, ◌<◌, ◌≤◌}
 use native.Mathlib.Omega.{arith}
 use borrow.Author.Tests.{eq-eqb, ne_eqb}
-use lib.ListN.{get_or, set}
+use lib.ListN.{length, get_or, set}
 use lib.IntN.{ℤ}
 use Rattle.rules.specs.declared.Settings.{Settings}
 use Rattle.rules.specs.declared.Position.{Position}
 use Rattle.rules.specs.declared.Played.{Played}
-use Rattle.rules.specs.declared.Cells.{Cells}
 use Rattle.rules.specs.Words.{pick, bit, stack_of}
 use Rattle.rules.specs.States.{with_left, with_lce, with_solved_left}
 use Rattle.rules.specs.Board.{face_at, mine_at, lone_at}
@@ -18,10 +17,11 @@ use Rattle.rules.specs.Opening.{refreshed}
 use Rattle.rules.specs.Judging.{judged_left}
 use Rattle.rules.specs.Clicks.{Desk, desk, rows_of, columns_of, ended, add_left, solves_left, left_counts, left_opens, left_click}
 use Rattle.cells.specs.Ground.{Below}
+use Rattle.cells.specs.Stack.{stacked}
 use Rattle.cells.specs.Promises.{Ticked, Laid, LaidAt, RoomAt, play, Leaves, Acts}
 use Rattle.opening.specs.Parts.{opened}
 use Rattle.opening.proofs.Ticking.{ticked_number, safe_number}
-use Rattle.clicks.specs.Parts.{NumberAt, SpreadsAt, Adds, opens_with, left_adds, Collected}
+use Rattle.clicks.specs.Parts.{NumberAt, SpreadsAt, Adds, opens_with, left_adds}
 use Rattle.clicks.proofs.Ends.{opened_number}
 
 -- ---- left + 1 leaves all else ----------------------------------------------------------------------------------------------------------
@@ -117,16 +117,12 @@ module _ (B : List ℤ) (i : ℕ) (p z : Position) (shown work work' : List ℕ)
   counted_settings = ap (λ (d : Desk). d.position.settings) (a []).outcome ∙ left_settings B i (desk p shown [])
 
   -- what opening the cell by itself asks
-  pub spread_asks : (c : Cells) → Collected (i ∷ []) 1 c → LaidAt B p shown work → i < p.settings.rows * p.settings.columns
-      → LaidAt B z shown work' × ((c.n ≤ 8) × Below (z.settings.rows * z.settings.columns) (stack_of c.at c.n))
-  spread_asks c k l h = (rw (counted_settings, (a []).same) l, (omega (arith, k.most), rw (counted_settings, k.stack) (h, tt)))
+  pub spread_asks : LaidAt B p shown work → i < p.settings.rows * p.settings.columns
+      → LaidAt B z shown work' × ((length (i ∷ []) ≤ 8) × Below (z.settings.rows * z.settings.columns) (i ∷ []))
+  spread_asks l h = (rw (counted_settings, (a []).same) l, (omega arith, rw counted_settings (h, tt)))
 
-  pub spread_done : (c : Cells) → Collected (i ∷ []) 1 c → (r : Played) (shown' work'' : List ℕ) → Acts (opens_with B 2 (stack_of c.at c.n)) z shown work' r shown' work''
+  pub spread_done : (r : Played) (shown' work'' : List ℕ) → Acts (opens_with B 2 (stacked (i ∷ []))) z shown work' r shown' work''
       → Acts (left_opens B i) p shown work r shown' work''
-  spread_done c k r shown' work'' o = λ bits. record { outcome = (o bits).outcome ∙ way bits; same = (o bits).same ∙ (a bits).same }
-    where
-      way : (bits : List ℕ) → opens_with B 2 (stack_of c.at c.n) (desk z shown bits) ≡ left_opens B i (desk p shown bits)
-      way bits =
-          ap (λ (st : List ℕ). opens_with B 2 st (desk z shown bits)) k.stack
-          ∙ ap (opens_with B 2 (i ∷ [])) (a bits).outcome
-          ∙ left_opens_lem B i (desk p shown bits)
+  unfolding stack_of
+  spread_done r shown' work'' o =
+      λ bits. record { outcome = (o bits).outcome ∙ ap (opens_with B 2 (i ∷ [])) (a bits).outcome ∙ left_opens_lem B i (desk p shown bits); same = (o bits).same ∙ (a bits).same }

@@ -1,9 +1,8 @@
--- What the parts of a left click ask and do, and the cells that a chord collects.
-use Rattle.std.specs.Prelude.{◌≡◌, Bool, true, false, List, ℕ, ◌+◌, ◌*◌, ◌<◌, ◌≤◌, length, get_or, set, ℤ}
+-- What the parts of a left click ask and do.
+use Rattle.std.specs.Prelude.{◌≡◌, Bool, true, false, List, ℕ, ◌*◌, ◌<◌, length, get_or, ℤ}
 use Rattle.rules.specs.declared.Settings.{Settings}
 use Rattle.rules.specs.declared.Position.{Position}
-use Rattle.rules.specs.declared.Cells.{Cells}
-use Rattle.rules.specs.Words.{pick, stack_of}
+use Rattle.rules.specs.Words.{pick}
 use Rattle.rules.specs.Board.{face_at, mine_at, lone_at}
 use Rattle.rules.specs.Opening.{refreshed}
 use Rattle.rules.specs.Clicks.{Desk, Play, desk, rows_of, columns_of, ended, left_counts}
@@ -42,13 +41,3 @@ opens_with B n given d = ended n d (refreshed B (rows_of d) (columns_of d) given
 -- a mine counts nothing, any other cell lce + 1 and solved_left
 abbrev pub left_adds : List ℤ → ℕ → Desk → Desk
 left_adds B i d = pick (mine_at B i) d (left_counts B d i)
-
--- one cell more
-abbrev pub one_more_of : Cells → ℕ → Cells
-one_more_of c q = record { at = set c.at c.n q; n = c.n + 1 }
-
--- the array's first cells, at most k, are the stack
-pub record Collected (st : List ℕ) (k : ℕ) (c : Cells) : Type 0 where
-  pub stack : stack_of c.at c.n ≡ st
-  pub most : c.n ≤ k
-  pub long : length c.at ≡ 8

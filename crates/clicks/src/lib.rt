@@ -2,37 +2,29 @@
 // The contracts cite rules' Clicks, and specs/Parts for what the parts of a left click ask and do.
 #![tactic(auto)]
 
-ghost use Rattle.std.specs.Prelude.{◌≡◌, List, [], ◌∷◌, ℕ, ◌+◌, ◌-◌, ◌*◌, ◌<◌, ◌≤◌, length, ℤ};
-ghost use Rattle.rules.specs.Words.{stack_of, bit};
+ghost use Rattle.std.specs.Prelude.{◌≡◌, List, ℕ, ◌+◌, ◌*◌, ◌<◌, ◌≤◌, length, ℤ};
+ghost use Rattle.rules.specs.Cells.{cell_list};
+ghost use Rattle.rules.specs.Words.{bit};
 ghost use Rattle.rules.specs.States.{with_left, with_lce, with_solved_left};
 ghost use Rattle.rules.specs.Grid.{cell_of};
 ghost use Rattle.rules.specs.Clicks.{desk, ended, left_opens, left_click};
 ghost use Rattle.cells.specs.Ground.{Below};
+ghost use Rattle.cells.specs.Stack.{stacked};
 ghost use Rattle.cells.specs.Promises.{Ticked, LaidAt, RoomAt, play, Acts};
 ghost use Rattle.opening.specs.Parts.{opened};
-ghost use Rattle.clicks.specs.Parts.{NumberAt, SpreadsAt, Told, Adds, opens_with, left_adds, Collected};
+ghost use Rattle.clicks.specs.Parts.{NumberAt, SpreadsAt, Told, Adds, opens_with, left_adds};
 
 use opening::Outcome;
 use rules::{Cells, GameState, Played, Position};
 
 // ---- opening ---------------------------------------------------------------------------------------------------------------------------
 
-// One number less another, down to 0.
-fn less(a: u32, b: u32) -> u32
-    ensures { result ≡ a - b }
-{
-    if b <= a {
-        return a - b;
-    }
-    0
-}
-
 // How an opening ends: as many safe cells fewer still closed as it opened; a mine is Loss and 4; else Win where none is left, and the answer is
 // the one given. The boards are not read.
 fn end_opening(p: Position, o: Outcome, n: u16) -> Played
     ensures { (past shown bits : List ℕ) → Ticked 0 past o.opened shown → play result shown bits ≡ ended n (desk p past bits) (opened shown o.hit) }
 {
-    let left = less(p.counts.unopened, o.opened);
+    let left = p.counts.unopened.saturating_sub(o.opened);
     let q = p.with_unopened(left);
     if o.hit {
         let z = q.with_game(GameState::Loss);
@@ -64,12 +56,11 @@ pub fn open_cells(
     n: u16,
 ) -> Played
     requires laid_at { LaidAt mines.now p shown.old work.old }
-    requires n_bound { cells.n ≤ 8 }
-    requires below { Below (p.settings.rows * p.settings.columns) (stack_of cells.at cells.n) }
-    ensures { Acts (opens_with mines.now n (stack_of cells.at cells.n)) p shown.old work.old result shown.new work.new }
+    requires below { Below (p.settings.rows * p.settings.columns) (cell_list cells) }
+    ensures { Acts (opens_with mines.now n (stacked (cell_list cells))) p shown.old work.old result shown.new work.new }
 {
-    let rows = p.settings.rows as usize;
-    let columns = p.settings.columns as usize;
+    let rows = usize::from(p.settings.rows);
+    let columns = usize::from(p.settings.columns);
     let o = opening::refresh_board(mines, shown, work, rows, columns, cells);
     end_opening(p, o, n)
 }
@@ -89,7 +80,7 @@ fn left_counts(p: Position, solves: bool) -> Position
     requires { (p.counts.lce ≤ 70000) × (p.secrets.solved_left ≤ 1000000) }
     ensures { result ≡ with_solved_left (with_lce p (p.counts.lce + 1)) (p.secrets.solved_left + bit solves) }
 {
-    let one = cells::one_if(solves);
+    let one = u32::from(solves);
     let k = p.counts.lce + 1;
     let q = p.with_lce(k);
     let n = p.secrets.solved_left + one;
@@ -132,22 +123,10 @@ fn spread_counts(
     if face == 15 {
         return p;
     }
-    let rows = p.settings.rows as usize;
-    let columns = p.settings.columns as usize;
+    let rows = usize::from(p.settings.rows);
+    let columns = usize::from(p.settings.columns);
     let solves = judging::cell_is_op_completed(mines, shown, work, rows, columns, cell);
     left_counts(p, solves)
-}
-
-// A cell by itself.
-fn only(cell: usize) -> Cells
-    requires { cell ≤ 2048 }
-    ensures { Collected (cell ∷ []) 1 result }
-{
-    let x = cell as u16;
-    Cells {
-        at: [x, 0, 0, 0, 0, 0, 0, 0],
-        n: 1,
-    }
 }
 
 // A closed 0 or mine is opened, and ends with 2 where it is no mine.
@@ -166,20 +145,13 @@ fn left_spreads(
     ensures { Acts (left_opens mines.now cell) p shown.old work.old result shown.new work.new }
 {
     let z = spread_counts(p, mines, shown, work, cell, face);
-    let one = only(cell);
-    open_cells(z, mines, shown, work, one, 2)
+    open_cells(z, mines, shown, work, Cells::only(cell as u16), 2)
 }
 
 pub fn is_number(face: u8) -> bool
     ensures { Told face result }
 {
-    if face == 0 {
-        return false;
-    }
-    if face == 15 {
-        return false;
-    }
-    true
+    face != 0 && face != 15
 }
 
 // LEFT: left + 1; unless the cell shows 10, answer 0; a mine: 15, Loss, 4; else open it, lce + 1, test for the win, 2.
@@ -196,7 +168,7 @@ pub fn left_click(
     requires row_lt_rows { (row < p.settings.rows) × (column < p.settings.columns) }
     ensures { Acts (left_click mines.now (cell_of p.settings.columns row column)) p shown.old work.old result shown.new work.new }
 {
-    let columns = p.settings.columns as usize;
+    let columns = usize::from(p.settings.columns);
     let cell = row * columns + column;
     if shown[cell] != 10 {
         let q = add_left(p);
@@ -207,7 +179,7 @@ pub fn left_click(
     }
     let face = cells::face_at(mines, cell);
     if is_number(face) {
-        let rows = p.settings.rows as usize;
+        let rows = usize::from(p.settings.rows);
         let lone = lones::lone_number(mines, rows, columns, row, column);
         return left_number(p, shown, cell, face, lone);
     }

@@ -7,6 +7,7 @@ ghost use Rattle.rules.specs.Promises.{NumberMinesIs};
 ghost use Rattle.console.specs.Promises.{CheckBoardIs, SetupIs, ResetIs, ResolveIs, StepIs, StepFlowIs, CheckPositionIs, StepGameStateIs, BbbvSolvedIs, LeftToSolveIs, Total3bvIs, ReadBookIs};
 
 use flats::{FlatAnswer, FlatBook, FlatPosition, FlatValue};
+use rules::Position;
 
 // ---- the board -------------------------------------------------------------------------------------------------------------------------
 
@@ -15,14 +16,14 @@ pub fn lm_check_board(rows: u8, columns: u8, mines: &[i8]) -> FlatValue
     ensures { CheckBoardIs rows columns mines.now result }
 {
     let v = board::check_board(rows, columns, mines);
-    flats::flat_value(v)
+    FlatValue::from(v)
 }
 
 // Numbering from a mine list: 20, 21, 42, 24.
 pub fn lm_number_mines(rows: u8, columns: u8, list: &[u8], mines: &mut [i8]) -> u32
     ensures { NumberMinesIs rows columns list.now mines.old result mines.new }
 {
-    flats::wide(board::number_mines(rows, columns, list, mines))
+    u32::from(board::number_mines(rows, columns, list, mines))
 }
 
 // The 3BV total: 20 to 24.
@@ -30,7 +31,7 @@ pub fn lm_total_3bv(rows: u8, columns: u8, mines: &[i8], work: &mut [u16]) -> Fl
     ensures { Total3bvIs rows columns mines.now work.old result work.new }
 {
     let v = board::total_3bv(rows, columns, mines, work);
-    flats::flat_value(v)
+    FlatValue::from(v)
 }
 
 // ---- setup and reset -------------------------------------------------------------------------------------------------------------------
@@ -50,14 +51,14 @@ pub fn lm_setup(
 {
     let s = flats::settings_of(rows, columns, mode, question, rules);
     let a = board::setup(s, mines, shown, bits);
-    flats::flat_answer(a)
+    FlatAnswer::from(a)
 }
 
 // Reset is setup with the position's own settings, 20 to 25, 45; it reads no other byte, but a refusal gives all of them back.
 pub fn lm_reset(f: FlatPosition, mines: &[i8], shown: &mut [u8], bits: &mut [u8]) -> FlatAnswer
     ensures { ResetIs f mines.now shown.old bits.old result shown.new bits.new }
 {
-    let p = flats::position_in(f);
+    let p = Position::from(f);
     let a = board::reset(p, mines, shown, bits);
     reads::reset_for(f, a)
 }
@@ -70,7 +71,7 @@ pub fn lm_check_position(f: FlatPosition, mines: &[i8], shown: &[u8], bits: &[u8
 {
     let p = reads::position_for(f);
     let v = board::check_position(p, mines, shown, bits);
-    flats::flat_value(v)
+    FlatValue::from(v)
 }
 
 // "replay" is 0 and "fail" 1: 20 to 264, 33, or Loss.
@@ -172,5 +173,5 @@ pub fn lm_read_book(s: &[u8]) -> FlatBook
     ensures { ReadBookIs s.now result }
 {
     let b = book::read_book(s);
-    flats::flat_book(b)
+    FlatBook::from(b)
 }

@@ -1,4 +1,5 @@
 -- The slots of a room are faithful to a lawful game; and playing its first n events from the start is what a flow of them gives.
+use Rattle.std.specs.Prelude.{Option, Some, None}
 use mathlib.Core.Path.{◌≡◌, refl, ap, sym, ◌∙◌, subst, subst⁻¹}
 use mathlib.Core.Bool.{Bool, true, false, ◌&&◌, not}
 use mathlib.Core.List.{List, [], ◌∷◌, ◌++◌}
@@ -12,8 +13,6 @@ use lib.Seq.{sets, length-sets, take-add, length-take-le}
 use borrow.Author.Tests.{eq-eqb, eqb-false, le-leb, lt-ltb, le-ltb}
 use Rattle.rules.specs.declared.Settings.{Settings}
 use Rattle.rules.specs.declared.Pointer.{Pointer}
-use Rattle.rules.specs.declared.Decoded.{Decoded}
-use Rattle.rules.specs.declared.Decoded.TheVariants.{At, Bad}
 use Rattle.rules.specs.Words.{pick, bit}
 use Rattle.rules.specs.Lent.{bit_bytes}
 use Rattle.rules.specs.Opening.{count_shown, is_open}
@@ -76,10 +75,10 @@ at_counts B code x d ok =
     let n : 30 ≤ refusal_at code x d = refused_from (refusal_at code x d) (refusal_refuses (plain_of code x d) d) (eqb-false (refusal_at code x d) 0 y) in
     absurd (no (sym (le-leb 20 (refusal_at code x d) (omega arith)) ∙ (simp y at ok))))
 
-by_counts : (B : List ℤ) (code : ℕ) (p : Decoded) (d : Desk) → refused_by (step_by_of B code p d) ≡ false → (step_by_of B code p d).desk.position.events ≡ d.position.events + 1
+by_counts : (B : List ℤ) (code : ℕ) (p : Option Pointer) (d : Desk) → refused_by (step_by_of B code p d) ≡ false → (step_by_of B code p d).desk.position.events ≡ d.position.events + 1
 unfolding step_by_of
-by_counts B code (At x) d ok = at_counts B code x d ok
-by_counts B code Bad d ok = absurd (no ok)
+by_counts B code (Some x) d ok = at_counts B code x d ok
+by_counts B code None d ok = absurd (no ok)
 
 step_counts : (B : List ℤ) (code r c : ℕ) (d : Desk) → refused_by (step_on B code r c d) ≡ false → (step_on B code r c d).desk.position.events ≡ d.position.events + 1
 unfolding step_on

@@ -1,12 +1,14 @@
 -- The writer: the parts of the plain form written one after the other, and the outcome.
 use mathlib.Core.Path.{◌≡◌, ap, sym, ◌∙◌}
 use mathlib.Core.List.{List, [], ◌∷◌, ◌++◌}
-use Prim.Native.Nat.{ℕ, ◌+◌, ◌≤◌}
+use Prim.Native.Nat.{ℕ, ◌≤◌}
 use native.Mathlib.Omega.{arith}
 use borrow.Author.Tests.{eq-eqb, ne_eqb, eqb-true}
 use lib.Dec.{eqb}
 use lib.ListN.{length}
-use Rattle.rules.specs.Picture.{number_lines, plain_form, byte_room, shown_refusal, drawn, draw_by, draw_of}
+use Rattle.rules.specs.declared.Value.{Value}
+use Rattle.rules.specs.declared.Place.TheVariants.{Nowhere}
+use Rattle.rules.specs.Picture.{number_lines, plain_form, byte_room, shown_refusal, Drawn, drawn, draw_by, draw_of}
 use Rattle.writing.specs.Put.{Room, Put}
 use Rattle.writing.proofs.Putting.{room_first, room_second, room_as, room_within, put_then, put_as, put_over}
 use Rattle.showing.proofs.Shown.{Showable, shown_passed}
@@ -45,6 +47,11 @@ module _ (R C : ℕ) (shown : List ℕ) {out : List ℕ} (room : Room (plain_for
 
           pub put_plain : {out₅ : List ℕ} {e : ℕ} → Put (number_lines shown) d out₄ out₅ e → Put (plain_form R C shown) 0 out out₅ e
           put_plain board = put_as (sym (plain_parts R C shown)) (put_then mark (put_then width (put_then height (put_then maximum board))))
+
+-- the answer by another name
+pub drawn_as : {n long : ℕ} {r : Value} {out : List ℕ} {d : Drawn} → r ≡ record { number = n; place = Nowhere; value = long } → drawn n long out ≡ d
+    → record { answer = r; out = out } ≡ d
+drawn_as {out = out} e h = ap (λ (v : Value). record { answer = v; out = out }) e ∙ h
 
 -- ---- the outcome -------------------------------------------------------------------------------------------------------------------------
 

@@ -97,9 +97,10 @@ pub found_as_listed : (B : List ℤ) (d : Desk) → flag_rows B (rows_of d) (col
 found_as_listed B d = found_rows B (rows_of d) (columns_of d) d (rows_of d) ∙ sym (flag_pass_once B d)
 
 -- the code's pass: the flags of the scan, counted, go into the position
-pub pass_is : (B : List ℤ) (p q : Position) (s b s' b' : List ℕ) (n : ℕ) → Flags (flag_rows B p.settings.rows p.settings.columns p.settings.rows) 0 s b n s' b'
+pub pass_is : (B : List ℤ) (p q : Position) (s b s' b' : List ℕ) (n R C : ℕ) → R ≡ p.settings.rows → C ≡ p.settings.columns → Flags (flag_rows B R C R) 0 s b n s' b'
     → q ≡ with_flag p (p.counts.flag + n) → desk q s' b' ≡ flag_pass B (desk p s b)
-pass_is B p q s b s' b' n f e =
+pass_is B p q s b s' b' n R C er ec f e =
+    let none : p.counts.flag + 0 ≡ p.counts.flag = omega arith in
     ap (λ (x : Position). desk x s' b') e ∙ f.outcome p
-    ∙ ap (λ (m : ℕ). flag_rows B p.settings.rows p.settings.columns p.settings.rows (desk (with_flag p m) s b)) (omega arith)
-    ∙ found_as_listed B (desk p s b)
+    ∙ ap (λ (m : ℕ). flag_rows B R C R (desk (with_flag p m) s b)) none
+    ∙ rw (er, ec) (found_as_listed B (desk p s b))

@@ -3,7 +3,6 @@
 #![tactic(auto)]
 
 ghost use Rattle.std.specs.Prelude.{◌≡◌, ◌+◌, ◌*◌, ◌<◌, ◌≤◌, length};
-ghost use Rattle.rules.specs.States.{with_flag};
 ghost use Rattle.rules.specs.Grid.{cell_of};
 ghost use Rattle.rules.specs.Clicks.{desk};
 ghost use Rattle.rules.specs.Passes.{remainder, all_closed_of, ripe_at, flag_one, flag_pass};
@@ -152,23 +151,14 @@ fn flag_rows(mines: &[i8], shown: &mut [u8], bits: &mut [u8], rows: usize, colum
     n
 }
 
-// So many flags more, and no other count.
-fn add_flags(p: Position, new: u32) -> Position
-    requires { p.counts.flag + new ≤ 65535 }
-    ensures { result ≡ with_flag p (p.counts.flag + new) }
-{
-    let n = p.counts.flag + new;
-    p.with_flag(n)
-}
-
 // The flag pass: one scan (a second would find nothing: proofs/OneScan.antt), and its flags go into the position once.
 pub fn flag_pass(p: Position, mines: &[i8], shown: &mut [u8], bits: &mut [u8]) -> Position
     requires flaggable { Flaggable mines.now shown.old bits.old p.settings.rows p.settings.columns }
     requires shown_bound { p.counts.flag + closed_in shown.old ≤ 65535 }
     ensures { desk result shown.new bits.new ≡ flag_pass mines.now (desk p shown.old bits.old) }
 {
-    let rows = p.settings.rows as usize;
-    let columns = p.settings.columns as usize;
-    let new = flag_rows(mines, shown, bits, rows, columns);
-    add_flags(p, new)
+    let rows = usize::from(p.settings.rows);
+    let columns = usize::from(p.settings.columns);
+    let n = p.counts.flag + flag_rows(mines, shown, bits, rows, columns);
+    p.with_flag(n)
 }

@@ -3,10 +3,11 @@
 #![tactic(auto)]
 
 ghost use Rattle.std.specs.Prelude.{◌≡◌};
-ghost use Rattle.rules.specs.Words.{bit};
 ghost use Rattle.flats.specs.Flat.{means, settings_of, position_in, flat_of, gives, flat_answer, flat_value, flat_book};
 
-use rules::{Answer, Book, Counts, Place, Position, Secrets, Settings, Value};
+use rules::{
+    Answer, Book, Counts, GameState, MouseState, Place, Position, Secrets, Settings, Value,
+};
 
 // The position, with its states as bytes: 56 bytes without padding, so that a refusal can give every one of them back. `double` is a word of C.
 #[repr(C)]
@@ -74,28 +75,17 @@ pub struct FlatBook {
 
 // ---- what the bytes mean ---------------------------------------------------------------------------------------------------------------
 
-fn byte(b: bool) -> u8
-    ensures { result ≡ bit b }
-{
-    if b {
-        return 1;
+impl FlatPosition {
+    // Does every state byte mean something?
+    #[tactic(auto, unfolding(crate::specs::Flat::means))]
+    pub fn means(self) -> bool
+        ensures { result ≡ means self }
+    {
+        (self.question <= 1) & ((self.game <= 4) & ((self.mouse <= 6) & (self.middle <= 1)))
     }
-    0
 }
 
-pub fn wide(n: u16) -> u32
-    ensures { result ≡ n }
-{
-    n as u32
-}
-
-// Does every state byte mean something?
-pub fn means(f: FlatPosition) -> bool
-    ensures { result ≡ means f }
-{
-    (f.question <= 1) & ((f.game <= 4) & ((f.mouse <= 6) & (f.middle <= 1)))
-}
-
+// The five settings come one by one: so the C interface hands them to a setup.
 pub fn settings_of(rows: u8, columns: u8, mode: u8, question: u8, rules: u8) -> Settings
     ensures { result ≡ settings_of rows columns mode question rules }
 {
@@ -109,116 +99,119 @@ pub fn settings_of(rows: u8, columns: u8, mode: u8, question: u8, rules: u8) -> 
 }
 
 // The position that the bytes mean; of one that means nothing, the last state.
-pub fn position_in(f: FlatPosition) -> Position
-    ensures { result ≡ position_in f }
-{
-    let settings = settings_of(f.rows, f.columns, f.mode, f.question, f.rules);
-    let game = rules::game_at(f.game);
-    let mouse = rules::mouse_at(f.mouse);
-    let counts = Counts {
-        left: f.left,
-        right: f.right,
-        double: f.doubles,
-        lce: f.lce,
-        dce: f.dce,
-        flag: f.flag,
-        unopened: f.unopened,
-    };
-    let secrets = Secrets {
-        rce: f.rce,
-        solved_left: f.solved_left,
-        solved_chord: f.solved_chord,
-    };
-    Position {
-        settings,
-        game,
-        mouse,
-        middle: f.middle != 0,
-        preflags: f.preflags,
-        events: f.events,
-        counts,
-        secrets,
+impl From<FlatPosition> for Position {
+    ghost from_gives = { λ f p. p ≡ position_in f };
+
+    fn from(f: FlatPosition) -> Position {
+        Position {
+            settings: settings_of(f.rows, f.columns, f.mode, f.question, f.rules),
+            game: GameState::from(f.game),
+            mouse: MouseState::from(f.mouse),
+            middle: f.middle != 0,
+            preflags: f.preflags,
+            events: f.events,
+            counts: Counts {
+                left: f.left,
+                right: f.right,
+                double: f.doubles,
+                lce: f.lce,
+                dce: f.dce,
+                flag: f.flag,
+                unopened: f.unopened,
+            },
+            secrets: Secrets {
+                rce: f.rce,
+                solved_left: f.solved_left,
+                solved_chord: f.solved_chord,
+            },
+        }
     }
 }
 
-fn flat(p: Position) -> FlatPosition
-    ensures { result ≡ flat_of p }
-{
-    let game = p.game;
-    let mouse = p.mouse;
-    FlatPosition {
-        rows: p.settings.rows,
-        columns: p.settings.columns,
-        mode: p.settings.mode,
-        question: byte(p.settings.question),
-        game: rules::game_number(game),
-        mouse: rules::mouse_number(mouse),
-        middle: byte(p.middle),
-        rules: p.settings.rules,
-        preflags: p.preflags,
-        events: p.events,
-        left: p.counts.left,
-        right: p.counts.right,
-        doubles: p.counts.double,
-        lce: p.counts.lce,
-        dce: p.counts.dce,
-        flag: p.counts.flag,
-        unopened: p.counts.unopened,
-        rce: p.secrets.rce,
-        solved_left: p.secrets.solved_left,
-        solved_chord: p.secrets.solved_chord,
+// ---- the bytes -------------------------------------------------------------------------------------------------------------------------
+
+impl From<Position> for FlatPosition {
+    ghost from_gives = { λ p f. f ≡ flat_of p };
+
+    fn from(p: Position) -> FlatPosition {
+        FlatPosition {
+            rows: p.settings.rows,
+            columns: p.settings.columns,
+            mode: p.settings.mode,
+            question: u8::from(p.settings.question),
+            game: u8::from(p.game),
+            mouse: u8::from(p.mouse),
+            middle: u8::from(p.middle),
+            rules: p.settings.rules,
+            preflags: p.preflags,
+            events: p.events,
+            left: p.counts.left,
+            right: p.counts.right,
+            doubles: p.counts.double,
+            lce: p.counts.lce,
+            dce: p.counts.dce,
+            flag: p.counts.flag,
+            unopened: p.counts.unopened,
+            rce: p.secrets.rce,
+            solved_left: p.secrets.solved_left,
+            solved_chord: p.secrets.solved_chord,
+        }
     }
 }
 
-pub fn gives(n: u16, x: Place, f: FlatPosition, v: u32) -> FlatAnswer
-    ensures { result ≡ gives n x f v }
-{
-    let row = rules::row_byte(x);
-    let column = rules::column_byte(x);
-    FlatAnswer {
-        number: n,
-        row,
-        column,
-        position: f,
-        value: v,
+impl FlatAnswer {
+    // A number with its place and a value, beside a position that is flat already.
+    pub fn new(number: u16, place: Place, position: FlatPosition, value: u32) -> FlatAnswer
+        ensures { result ≡ gives number place position value }
+    {
+        FlatAnswer {
+            number,
+            row: rules::row_byte(place),
+            column: rules::column_byte(place),
+            position,
+            value,
+        }
     }
 }
 
-pub fn flat_answer(a: Answer) -> FlatAnswer
-    ensures { result ≡ flat_answer a }
-{
-    let x = a.place;
-    let p = a.position;
-    let f = flat(p);
-    gives(a.number, x, f, a.value)
-}
+impl From<Answer> for FlatAnswer {
+    ghost from_gives = { λ a f. f ≡ flat_answer a };
 
-pub fn flat_value(v: Value) -> FlatValue
-    ensures { result ≡ flat_value v }
-{
-    let at = v.place;
-    FlatValue {
-        number: v.number,
-        row: rules::row_byte(at),
-        column: rules::column_byte(at),
-        value: v.value,
+    fn from(a: Answer) -> FlatAnswer {
+        let position = FlatPosition::from(a.position);
+        FlatAnswer::new(a.number, a.place, position, a.value)
     }
 }
 
-pub fn flat_book(b: Book) -> FlatBook
-    ensures { result ≡ flat_book b }
-{
-    FlatBook {
-        number: b.number,
-        rows: b.settings.rows,
-        columns: b.settings.columns,
-        mode: b.settings.mode,
-        question: byte(b.settings.question),
-        rules: b.settings.rules,
-        place: b.place,
-        mines_at: b.mines_at,
-        mines: b.mines,
-        events_at: b.events_at,
-        events: b.events,
+impl From<Value> for FlatValue {
+    ghost from_gives = { λ v f. f ≡ flat_value v };
+
+    fn from(v: Value) -> FlatValue {
+        FlatValue {
+            number: v.number,
+            row: rules::row_byte(v.place),
+            column: rules::column_byte(v.place),
+            value: v.value,
+        }
+    }
+}
+
+impl From<Book> for FlatBook {
+    ghost from_gives = { λ b f. f ≡ flat_book b };
+
+    fn from(b: Book) -> FlatBook {
+        FlatBook {
+            number: b.number,
+            rows: b.settings.rows,
+            columns: b.settings.columns,
+            mode: b.settings.mode,
+            question: u8::from(b.settings.question),
+            rules: b.settings.rules,
+            place: b.place,
+            mines_at: b.mines_at,
+            mines: b.mines,
+            events_at: b.events_at,
+            events: b.events,
+        }
     }
 }

@@ -1,4 +1,6 @@
 -- Moves that follow each other: each is accepted in every game state and changes the count of events alone, so a row of them is counted together.
+use Rattle.std.specs.Prelude.{Option, Some, None}
+use Rattle.std.specs.Option.{is_some}
 use mathlib.Core.Path.{◌≡◌, ◌∙◌, sym, ap, ap₂, refl, subst}
 use mathlib.Core.Bool.{true, false, false≢true}
 use mathlib.Core.List.{List}
@@ -13,8 +15,6 @@ use Rattle.rules.specs.declared.Settings.{Settings}
 use Rattle.rules.specs.declared.Position.{Position}
 use Rattle.rules.specs.declared.Played.{Played}
 use Rattle.rules.specs.declared.Pointer.{Pointer}
-use Rattle.rules.specs.declared.Decoded.{Decoded}
-use Rattle.rules.specs.declared.Decoded.TheVariants.{At, Bad}
 use Rattle.rules.specs.States.{with_events}
 use Rattle.rules.specs.Clicks.{desk, done}
 use Rattle.rules.specs.Step.{pointer_of}
@@ -24,13 +24,18 @@ use Rattle.brief.proofs.Heard.{move_steps}
 use Rattle.game.proofs.Steps.{step_decoded}
 use Rattle.flows.proofs.Flows.{Flowing, event_at, flow_on_lem}
 
+-- a decoded pointer, or none
+pub some_at : (w : Option Pointer) → is_some w ≡ is_at w
+some_at (Some x) = refl
+some_at None = refl
+
 module _ (s : Settings) (events : List ℕ) where
   -- ---- one move ------------------------------------------------------------------------------------------------------------------------
 
   pub other_event : (at : ℕ) → (get_or events at 0 ≡ 4 → ⊥) → false ≡ move_at s events at
   other_event at h = rw (ne_eqb _ _ h) refl
 
-  pub move_is : (at : ℕ) (w v : Decoded) → get_or events at 0 ≡ 4 → w ≡ pointer_of s (get_or events (at + 1) 0) (get_or events (at + 2) 0) → w ≡ v → is_at v ≡ move_at s events at
+  pub move_is : (at : ℕ) (w v : Option Pointer) → get_or events at 0 ≡ 4 → w ≡ pointer_of s (get_or events (at + 1) 0) (get_or events (at + 2) 0) → w ≡ v → is_at v ≡ move_at s events at
   move_is at w v h e d = rw (eq-eqb _ _ h, ← e, d) refl
 
   -- ---- a row of moves ------------------------------------------------------------------------------------------------------------------
@@ -58,9 +63,9 @@ place_on : (at n : ℕ) → at + 3 + 3 * suc n ≡ at + 3 * suc (suc n)
 place_on at n = omega arith
 
 -- a decoded pointer, or none
-pointer_of_lem : (w : Decoded) → is_at w ≡ true → (x : Pointer) × (w ≡ At x)
-pointer_of_lem (At x) e = (x, refl)
-pointer_of_lem Bad e = absurd (false≢true e)
+pointer_of_lem : (w : Option Pointer) → is_at w ≡ true → (x : Pointer) × (w ≡ Some x)
+pointer_of_lem (Some x) e = (x, refl)
+pointer_of_lem None e = absurd (false≢true e)
 
 module _ (B : List ℤ) (events : List ℕ) (at₀ : ℕ) (o₀ : Played) (shown₀ bits₀ work₀ shown bits work : List ℕ) (m : length events % 3 ≡ 0) where
   -- the play of n moves
@@ -83,7 +88,7 @@ module _ (B : List ℤ) (events : List ℕ) (at₀ : ℕ) (o₀ : Played) (shown
       code : get_or events at 0 ≡ 4
       code = eqb-true _ _ (and_left _ _ t)
 
-      x : (y : Pointer) × (pointer_of o.position.settings row column ≡ At y)
+      x : (y : Pointer) × (pointer_of o.position.settings row column ≡ Some y)
       x = pointer_of_lem (pointer_of o.position.settings row column) (and_right (eqb (get_or events at 0) 4) _ t)
 
       played : done 0 (desk (with_events o.position (o.position.events + 1)) shown bits) ≡ event_at B events at (desk o.position shown bits)

@@ -1,8 +1,7 @@
 -- Where a row of events ends, and moves that follow each other in it.
-use Rattle.std.specs.Prelude.{◌≡◌, Bool, true, false, ◌&&◌, List, ℕ, ◌+◌, ◌*◌, ◌<◌, ◌≤◌, eqb, length, get_or, ℤ}
+use Rattle.std.specs.Prelude.{◌≡◌, Bool, true, false, ◌&&◌, List, ℕ, ◌+◌, ◌*◌, ◌<◌, ◌≤◌, eqb, length, get_or, ℤ, Option, Some, None}
+use Rattle.rules.specs.declared.Pointer.{Pointer}
 use Rattle.rules.specs.declared.Settings.{Settings}
-use Rattle.rules.specs.declared.Decoded.{Decoded}
-use Rattle.rules.specs.declared.Decoded.TheVariants.{At, Bad}
 use Rattle.rules.specs.Clicks.{Desk, Play, done}
 use Rattle.rules.specs.Step.{pointer_of}
 use Rattle.rules.specs.Calls.{plays, last_play}
@@ -12,9 +11,9 @@ abbrev pub flow_on : List ℤ → List ℕ → Desk → Play
 flow_on B events d = last_play (done 0 d) (plays B events d)
 
 -- the event at a place of a row is a move that is not refused 30
-abbrev pub is_at : Decoded → Bool
-is_at (At x) = true
-is_at Bad = false
+abbrev pub is_at : Option Pointer → Bool
+is_at (Some x) = true
+is_at None = false
 
 abbrev pub move_at : Settings → List ℕ → ℕ → Bool
 move_at s events at = eqb (get_or events at 0) 4 && is_at (pointer_of s (get_or events (at + 1) 0) (get_or events (at + 2) 0))

@@ -11,8 +11,7 @@ ghost use Rattle.cells.specs.Promises.{Plays};
 ghost use Rattle.game.specs.Core.{Blank};
 ghost use Rattle.flows.specs.Runs.{flow_on, move_at, Moves};
 
-use brief::Brief;
-use rules::{Decoded, Played, Position, Settings};
+use rules::{Played, Position, Refusal, Settings};
 
 // The event of three bytes that starts at a place of the row: 30, 31, and what is brief is played here, so that a loop keeps its position at
 // hand; any other event gets a copy, since a position that is handed on must lie in memory.
@@ -33,25 +32,18 @@ pub fn next_event(
     let code = events[at];
     let row = events[at + 1];
     let column = events[at + 2];
-    let s = p.settings;
-    let Decoded::At(x) = mouse::decode(s, row, column) else {
-        return Played {
-            answer: 30,
-            position: p,
-        };
+    let Some(x) = mouse::decode(p.settings, row, column) else {
+        return game::refused(Refusal::Pointer, p);
     };
     if faults::is_full(p) {
-        return Played {
-            answer: 31,
-            position: p,
-        };
+        return game::refused(Refusal::Full, p);
     }
     match brief::play_brief(p, code, x, mines, &mut *shown, &mut *bits) {
-        Brief::Done(o) => {
+        Some(o) => {
             let n = p.events + 1;
             game::counted(o, n)
         }
-        Brief::Other => {
+        None => {
             let q = p;
             game::step_at(q, code, x, mines, &mut *shown, &mut *bits, &mut *work)
         }
@@ -63,15 +55,7 @@ fn is_move(s: Settings, events: &[u8], at: usize) -> bool
     requires { at + 3 ≤ length events.now }
     ensures { result ≡ move_at s events.now at }
 {
-    if events[at] != 4 {
-        return false;
-    }
-    let row = events[at + 1];
-    let column = events[at + 2];
-    let Decoded::At(_) = mouse::decode(s, row, column) else {
-        return false;
-    };
-    true
+    events[at] == 4 && mouse::decode(s, events[at + 1], events[at + 2]).is_some()
 }
 
 // Moves that follow each other from a place on, at most so many: a recording holds long rows of them.
@@ -79,31 +63,26 @@ fn moves(s: Settings, events: &[u8], from: usize, most: u32) -> u32
     requires { (from ≤ length events.now) × (from % 3 ≡ 0) × (length events.now % 3 ≡ 0) }
     ensures { Moves s events.now from result × (result ≤ most) }
 {
-    let mut at = from;
-    let mut n = 0u32;
-    while at < events.len() {
-        if most <= n {
+    for n in 0..most {
+        let at = from + 3 * (n as usize);
+        if events.len() <= at {
             return n;
         }
         if !is_move(s, events, at) {
             return n;
         }
-        at += 3;
-        n += 1;
     }
-    n
+    most
 }
 
 // Moves, most of what a recording holds: they change the count of events alone, in every game state.
-fn count_moves(p: Position, n: u32) -> Played
+pub fn count_moves(p: Position, n: u32) -> Played
     requires { p.events + n ≤ 65535 }
     ensures { result ≡ record { answer = 0; position = with_events p (p.events + n) } }
 {
-    let k = p.events + n;
-    let q = p.with_events(k);
     Played {
         answer: 0,
-        position: q,
+        position: p.with_events(p.events + n),
     }
 }
 
@@ -126,6 +105,7 @@ pub fn flow(
         answer: 0,
         position: p,
     };
+    // No `for`: a row of moves is passed over at once.
     while at < events.len() {
         let q = o.position;
         let n = moves(q.settings, events, at, 65535 - q.events);

@@ -1,16 +1,14 @@
 -- What is printed of a picture, by its two cases, and the room that its rows need.
 use mathlib.Core.Path.{◌≡◌, ap, sym, ◌∙◌}
-use mathlib.Core.Bool.{Bool}
 use mathlib.Core.List.{List, [], ◌∷◌}
-use Prim.Native.Nat.{ℕ, ◌+◌, ◌*◌, ◌≤◌}
+use Prim.Native.Nat.{ℕ, ◌*◌, ◌≤◌}
 use native.Mathlib.Omega.{arith}
 use lib.ListN.{length, take, drop}
 use lib.Seq.{length-take-le, take_at}
 use borrow.Author.Tests.{eq-eqb, ne_eqb}
 use Rattle.rules.specs.declared.Picture.{Picture}
-use Rattle.rules.specs.Words.{pick}
 use Rattle.rules.specs.Printout.{word_line, word_refused, row_lines}
-use Rattle.rules.specs.Picture.{rows_of, columns_of, picture_cells, picture_refusal, ReadPictureIs, rows_printed}
+use Rattle.rules.specs.Picture.{rows_of, columns_of, picture_refusal, ReadPictureIs, rows_printed}
 use Rattle.cells.specs.Ground.{Sized}
 use Rattle.cells.proofs.Grid.{size_limits}
 use Rattle.cells.proofs.Words.{product_same}

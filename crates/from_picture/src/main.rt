@@ -17,13 +17,14 @@ fn print_rows(s: &[u8], cells: &mut [u8], out: &mut [u8]) -> usize
     ensures { PutWithin 8192 (rows_printed s.now) 0 out.old out.new result }
 {
     let p = viewing::read_picture(s, &mut *cells);
+    // A `Picture` holds its number, since it is the type of the definition `ReadPictureIs`.
     if p.number != 0 {
-        let ns = [p.number as u32];
+        let ns = [u32::from(p.number)];
         return writing::put_word_line(&mut *out, 0, b"refused", &ns);
     }
     let n = boards::cell_count(p.rows, p.columns);
-    let rows = cells::wide(p.rows);
-    let columns = cells::wide(p.columns);
+    let rows = usize::from(p.rows);
+    let columns = usize::from(p.columns);
     text::put_rows(&mut *out, 0, rows, columns, &cells[..n])
 }
 

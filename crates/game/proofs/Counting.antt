@@ -1,16 +1,15 @@
 -- An accepted event is counted in the position, and a refused one leaves all as it was: so the number of a refused one is that of the events counted, and one.
+use Rattle.std.specs.Prelude.{Option, Some, None}
 use mathlib.Core.Path.{◌≡◌, ◌∙◌, ap, sym, refl}
 use mathlib.Core.Bool.{Bool, true, false, true≢false}
 use mathlib.Core.List.{List, [], ◌∷◌}
-use Prim.Native.Nat.{ℕ, suc, ◌+◌, ◌<◌, ◌≤◌}
+use Prim.Native.Nat.{ℕ, ◌+◌, ◌<◌, ◌≤◌}
 use native.Mathlib.Omega.{arith}
-use borrow.Author.Tests.{eq-eqb, leb-true, leb-false}
+use borrow.Author.Tests.{eq-eqb, leb-false}
 use lib.Dec.{eqb, leb}
 use lib.ListN.{length}
 use lib.IntN.{ℤ}
 use Rattle.rules.specs.declared.Pointer.{Pointer}
-use Rattle.rules.specs.declared.Decoded.{Decoded}
-use Rattle.rules.specs.declared.Decoded.TheVariants.{At, Bad}
 use Rattle.rules.specs.Words.{pick}
 use Rattle.rules.specs.Clicks.{Desk, Play, done}
 use Rattle.rules.specs.Step.{pointer_of, plain_of, refusal_at, play_at, step_at, step_by_of, step_on}
@@ -33,10 +32,10 @@ at_counted B code x d = go (eqb (refusal_at code x d) 0) refl
         let least = refused_from (refusal_at code x d) (refusal_refuses (plain_of code x d) d) some in
         record { counted = λ h. absurd (omega arith); kept = λ h. refl }
 
-by_counted : (B : List ℤ) (code : ℕ) (w : Decoded) (d : Desk) → Counted d (step_by_of B code w d)
+by_counted : (B : List ℤ) (code : ℕ) (w : Option Pointer) (d : Desk) → Counted d (step_by_of B code w d)
 unfolding step_by_of
-by_counted B code (At x) d = at_counted B code x d
-by_counted B code Bad d = record { counted = λ h. absurd (omega arith); kept = λ h. refl }
+by_counted B code (Some x) d = at_counted B code x d
+by_counted B code None d = record { counted = λ h. absurd (omega arith); kept = λ h. refl }
 
 pub step_counted : (B : List ℤ) (code r c : ℕ) (d : Desk) → Counted d (step_on B code r c d)
 unfolding step_on

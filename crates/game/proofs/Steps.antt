@@ -1,4 +1,5 @@
 -- A step of a lawful game: what playing an event asks, from the lawful position, and one equation for each way a step ends.
+use Rattle.std.specs.Prelude.{Option, Some, None}
 use mathlib.Core.Path.{◌≡◌, ◌∙◌, ap, ap₂, sym, refl}
 use mathlib.Core.Bool.{Bool, true}
 use mathlib.Core.List.{List}
@@ -6,13 +7,13 @@ use Prim.Native.Nat.{ℕ, ◌+◌, ◌<◌, ◌≤◌}
 use native.Mathlib.Omega.{arith}
 use borrow.Author.Tests.{eq-eqb, ne_eqb, lt-ltb, le-ltb}
 use lib.Dec.{ltb}
-use lib.ListN.{length, get_or}
+use lib.ListN.{get_or}
 use lib.IntN.{ℤ}
+use Rattle.rules.specs.declared.Refusal.{Refusal}
+use Rattle.rules.specs.Refusals.{refusal_number}
 use Rattle.rules.specs.declared.Position.{Position}
 use Rattle.rules.specs.declared.Played.{Played}
 use Rattle.rules.specs.declared.Pointer.{Pointer}
-use Rattle.rules.specs.declared.Decoded.{Decoded}
-use Rattle.rules.specs.declared.Decoded.TheVariants.{At, Bad}
 use Rattle.rules.specs.declared.Event.{Event}
 use Rattle.rules.specs.declared.GameState.TheVariants.{PreFlaging}
 use Rattle.rules.specs.declared.MouseState.{MouseState}
@@ -119,11 +120,11 @@ step_full B code x p shown bits l = rw (le-ltb p.events 65535 l) refl
 
 -- ---- its pointer -------------------------------------------------------------------------------------------------------------------------
 
-module _ (B : List ℤ) (code r c : ℕ) (p : Position) (shown bits : List ℕ) (w : Decoded) (e : w ≡ pointer_of p.settings r c) where
-  pub step_bad : w ≡ Bad → done 30 (desk p shown bits) ≡ step_on B code r c (desk p shown bits)
+module _ (B : List ℤ) (code r c : ℕ) (p : Position) (shown bits : List ℕ) (w : Option Pointer) (e : w ≡ pointer_of p.settings r c) where
+  pub step_bad : w ≡ None → done 30 (desk p shown bits) ≡ step_on B code r c (desk p shown bits)
   unfolding step_on step_by_of
   step_bad h = rw (← e, h)
 
-  pub step_decoded : (x : Pointer) → w ≡ At x → step_on B code r c (desk p shown bits) ≡ step_at B code x (desk p shown bits)
+  pub step_decoded : (x : Pointer) → w ≡ Some x → step_on B code r c (desk p shown bits) ≡ step_at B code x (desk p shown bits)
   unfolding step_on step_by_of
   step_decoded x h = rw (← e, h)

@@ -4,13 +4,14 @@
 
 ghost use Rattle.std.specs.Prelude.{◌≡◌, ◌<◌};
 ghost use Rattle.rules.specs.States.{with_events};
+ghost use Rattle.rules.specs.Refusals.{refusal_number};
 ghost use Rattle.rules.specs.Clicks.{desk};
 ghost use Rattle.rules.specs.Step.{by_game, step_at};
 ghost use Rattle.cells.specs.Promises.{Plays};
 ghost use Rattle.keep.specs.Kept.{Inside, InsideOf, LawfulAt};
 ghost use Rattle.game.specs.Core.{Blank, play_event};
 
-use rules::{Event, GameState, Played, Pointer, Position};
+use rules::{Event, GameState, Played, Pointer, Position, Refusal};
 
 // A plain event in the game state of the position; Win and Loss answer 0 to all.
 fn by_game(
@@ -26,8 +27,7 @@ fn by_game(
     requires inside_of { InsideOf p.settings e }
     ensures { Plays (by_game p.game mines.now e) p shown.old bits.old work.old result shown.new bits.new work.new }
 {
-    let game = p.game;
-    match game {
+    match p.game {
         GameState::Ready => ready::ready(p, e, mines, &mut *shown, &mut *bits, &mut *work),
         GameState::PreFlaging => preflaging::pre_flaging(
             p,
@@ -38,8 +38,7 @@ fn by_game(
             &mut *work,
         ),
         GameState::Playing => playing::playing(p, e, mines, &mut *shown, &mut *bits, &mut *work),
-        GameState::Win => buttons::answered(p),
-        GameState::Loss => buttons::answered(p),
+        GameState::Win | GameState::Loss => buttons::answered(p),
     }
 }
 
@@ -47,11 +46,17 @@ fn by_game(
 pub fn counted(o: Played, n: u32) -> Played
     ensures { result ≡ record { answer = o.answer; position = with_events o.position n } }
 {
-    let p = o.position;
-    let q = p.with_events(n);
+    let position = o.position.with_events(n);
+    Played { position, ..o }
+}
+
+// Nothing is played, and why.
+pub fn refused(refusal: Refusal, position: Position) -> Played
+    ensures { result ≡ record { answer = refusal_number refusal; position = position } }
+{
     Played {
-        answer: o.answer,
-        position: q,
+        answer: u16::from(refusal),
+        position,
     }
 }
 
@@ -92,12 +97,8 @@ pub fn step_at(
 {
     let h = mouse::resolve_at(p, code, x);
     let e = h.event;
-    let n = faults::event_refusal(p, &*shown, e);
-    if n != 0 {
-        return Played {
-            answer: n,
-            position: p,
-        };
+    if let Err(refusal) = faults::event_refusal(p, &*shown, e) {
+        return refused(refusal, p);
     }
     let q = p.with_middle(h.middle);
     play_event(q, e, mines, &mut *shown, &mut *bits, &mut *work)

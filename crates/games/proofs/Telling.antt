@@ -1,18 +1,20 @@
 -- A row of events, played and printed one after the other: what the loop keeps, and how it ends.
 use mathlib.Core.Path.{◌≡◌, ◌∙◌, sym, ap, refl, subst}
 use mathlib.Core.List.{List, [], ◌++◌}
-use Prim.Native.Nat.{ℕ, suc, ◌+◌, ◌*◌, ◌<◌, ◌≤◌}
+use Prim.Native.Nat.{ℕ, suc, ◌+◌, ◌*◌, ◌%◌, ◌<◌, ◌≤◌}
 use native.Mathlib.Omega.{arith}
 use native.Mathlib.Numerals.{add-one}
 use borrow.Author.Tests.{le-leb, lt-leb}
 use lib.Dec.{leb}
-use lib.ListN.{length, drop}
-use lib.Seq.{drop-length}
+use native.Mathlib.Nat.{add-zero}
+use lib.ListN.{length, get_or, get_or-append, drop, length-append, length-drop}
+use lib.Seq.{get_or-drop, drop-drop, drop_at, drop-length}
 use lib.IntN.{ℤ}
 use Rattle.rules.specs.declared.Position.{Position}
 use Rattle.rules.specs.declared.Played.{Played}
 use Rattle.rules.specs.Words.{pick}
 use Rattle.rules.specs.Clicks.{Desk, desk}
+use Rattle.rules.specs.Step.{step_on}
 use Rattle.rules.specs.Calls.{plays}
 use Rattle.rules.specs.Printout.{event_line, event_lines}
 use Rattle.keep.specs.Kept.{LawfulAt}
@@ -125,3 +127,67 @@ module _ (p : Position) {B : List ℤ} {events : List ℕ} {at : ℕ} {shown₀ 
         short = let f = further fit t h y w in omega arith;
         same = y.same ∙ t.flowing.same;
       }
+
+-- ---- the loop by its events ------------------------------------------------------------------------------------------------------------
+
+-- what is left of the row starts at k
+pub record Going (B : List ℤ) (events : List ℕ) (at : ℕ) (o₀ : Played) (shown₀ bits₀ work₀ out₀ : List ℕ) (number place : ℕ) (o : Played) (shown bits work out : List ℕ) (size : ℕ) (rest : List ℕ) : Type 0 where
+  pub k : ℕ
+  pub left : rest ≡ drop k events
+  pub three : size ≡ 3
+  pub telling : Telling B events at 0 o₀ shown₀ bits₀ work₀ out₀ k number place o shown bits work out
+
+pub going_start : (B : List ℤ) (events : List ℕ) (at : ℕ) (o : Played) (shown bits work out : List ℕ) {size : ℕ} {rest : List ℕ} → LawfulAt B (desk o.position shown bits)
+    → size ≡ 3 → rest ≡ events → Going B events at o shown bits work out 1 at o shown bits work out size rest
+going_start B events at o shown bits work out l n e =
+    record { k = 0; left = e; three = n; telling = telling_start B events at o shown bits work out l }
+
+module _ {B : List ℤ} {events : List ℕ} {at : ℕ} {o₀ : Played} {shown₀ bits₀ work₀ out₀ : List ℕ} {number place : ℕ} {o : Played} {shown bits work out : List ℕ} {size : ℕ} {rest : List ℕ}
+    (g : Going B events at o₀ shown₀ bits₀ work₀ out₀ number place o shown bits work out size rest) where
+  -- an event is left
+  module _ (row rest' : List ℕ) (e : rest ≡ row ++ rest') (n : length row ≡ size) where
+    row_left : drop g.k events ≡ row ++ rest'
+    row_left = sym g.left ∙ e
+
+    row_three : length row ≡ 3
+    row_three = n ∙ g.three
+
+    pub going_in : g.k < length events
+    going_in =
+        let a = ap length row_left in
+        let b = length-append row rest' in
+        let c = length-drop g.k events in
+        let d = row_three in
+        omega arith
+
+    cell : (j : ℕ) → j < 3 → get_or row j 0 ≡ get_or events (g.k + j) 0
+    cell j h =
+        sym (get_or-append row rest' 0 j (let d = row_three in omega arith)) ∙ ap (λ (l : List ℕ). get_or l j 0) (sym row_left) ∙ get_or-drop g.k events j 0
+
+    pub going_played : {o' : Played} {shown' bits' work' : List ℕ}
+        → Plays (step_on B (get_or row 0 0) (get_or row 1 0) (get_or row 2 0)) o.position shown bits work o' shown' bits' work'
+        → Plays (event_at B events g.k) o.position shown bits work o' shown' bits' work'
+    going_played p =
+        let z : get_or row 0 0 ≡ get_or events g.k 0 = cell 0 (omega arith) ∙ ap (λ (i : ℕ). get_or events i 0) (add-zero g.k) in
+        rw (z, cell 1 (omega arith), cell 2 (omega arith)) at p
+
+    pub going_on : {number' place' : ℕ} {o' : Played} {shown' bits' work' out' : List ℕ} {size' : ℕ} → size' ≡ size
+        → Telling B events at 0 o₀ shown₀ bits₀ work₀ out₀ (g.k + 3) number' place' o' shown' bits' work' out'
+        → Going B events at o₀ shown₀ bits₀ work₀ out₀ number' place' o' shown' bits' work' out' size' rest'
+    going_on s t =
+        record {
+          k = g.k + 3;
+          left = sym (drop_at row rest' 3 row_three) ∙ ap (drop 3) (sym row_left) ∙ drop-drop 3 g.k events;
+          three = s ∙ g.three;
+          telling = t;
+        }
+
+  -- none is left
+  pub going_out : length events % 3 ≡ 0 → length rest < size → length events ≤ g.k
+  going_out w h =
+      let a = ap length g.left in
+      let c = length-drop g.k events in
+      let d = g.three in
+      let m = g.telling.flowing.whole in
+      let i = g.telling.flowing.place in
+      omega arith

@@ -36,33 +36,29 @@ pub fn play_events(
     requires events_fit { EventsFit events.now at out.old }
     ensures { EventsPrinted mines.now events.now p shown.old bits.old work.old at out.old result shown.new bits.new work.new out.new }
 {
-    let mut k = 0;
     let mut number = 1u16;
     let mut place = at;
     let mut o = Played {
         answer: 0,
         position: p,
     };
-    while k < events.len() {
+    for event in events.chunks_exact(3) {
         let q = o.position;
-        o = flows::next_event(q, events, k, mines, &mut *shown, &mut *bits, &mut *work);
+        o = flows::next_event(q, event, 0, mines, &mut *shown, &mut *bits, &mut *work);
         place = printing::put_play(&mut *out, place, number, o);
         if 20 <= o.answer {
-            let refused = o.position;
             return Told {
                 at: place,
                 answer: o.answer,
-                position: refused,
+                position: o.position,
             };
         }
-        k += 3;
         number += 1;
     }
-    let last = o.position;
     Told {
         at: place,
         answer: o.answer,
-        position: last,
+        position: o.position,
     }
 }
 

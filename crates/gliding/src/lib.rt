@@ -28,10 +28,7 @@ fn stop_after(e: usize, to: usize, k: usize) -> usize
     ensures { Stops e to k result }
 {
     let rest = k - e % k;
-    if to - e < rest {
-        return to;
-    }
-    e + rest
+    e + rest.min(to - e)
 }
 
 // One row of a drag, and what is kept of it.
@@ -65,21 +62,17 @@ fn glide_row(
         &mut *work,
     );
     let q = o.position;
-    if 20 <= o.answer {
-        return Glided {
-            at,
-            answer: o.answer,
-            position: q,
-            kept,
-        };
-    }
-    let n = keeping::keep_desk(q, at, k, kept, &*shown, &*bits, &mut *room);
-    Glided {
+    let row = Glided {
         at,
         answer: o.answer,
         position: q,
-        kept: n,
+        kept,
+    };
+    if 20 <= o.answer {
+        return row;
     }
+    let n = keeping::keep_desk(q, at, k, kept, &*shown, &*bits, &mut *room);
+    Glided { kept: n, ..row }
 }
 
 // The way from one event to another, or to the first refused one.
@@ -107,10 +100,10 @@ pub fn glide(
         position: p,
         kept,
     };
+    // No `for`: a row is as long as the next event to keep, or the last, lets it be.
     while g.at < to {
-        let q = g.position;
         g = glide_row(
-            q,
+            g.position,
             g.at,
             to,
             k,

@@ -1,6 +1,5 @@
 -- The count of a chord by hand.
 use Rattle.std.specs.Prelude.{◌+◌, eqb}
-use Rattle.rules.specs.declared.Position.{Position}
 use Rattle.rules.specs.declared.Played.{Played}
 use Rattle.rules.specs.Words.{pick}
 use Rattle.rules.specs.States.{with_dce}

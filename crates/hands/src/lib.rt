@@ -41,13 +41,9 @@ fn add_dce(o: Played) -> Played
     if o.answer == 0 {
         return o;
     }
-    let p = o.position;
-    let n = p.counts.dce + 1;
-    let position = p.with_dce(n);
-    Played {
-        answer: o.answer,
-        position,
-    }
+    let n = o.position.counts.dce + 1;
+    let position = o.position.with_dce(n);
+    Played { position, ..o }
 }
 
 // CHORD by hand: double + 1, and the passes follow, even where the chord answers 0; its own answer stays.
@@ -68,8 +64,5 @@ pub fn chording_click(
     let o = chords::perform_chord(q, mines, shown, work, cell);
     let c = add_dce(o);
     let position = passes::passes_after_chord(c.position, mines, shown, bits, work);
-    Played {
-        answer: c.answer,
-        position,
-    }
+    Played { position, ..c }
 }

@@ -1,4 +1,5 @@
 -- An event and a call by hand with the passes that follow: what the hand itself leaves is lawful, and what the passes add is harmless.
+use Rattle.std.specs.Prelude.{Option, Some, None}
 use mathlib.Core.Path.{◌≡◌, ◌∙◌, ap, refl, subst⁻¹}
 use mathlib.Core.Bool.{Bool, true, false, ◌&&◌}
 use mathlib.Core.List.{List}
@@ -7,8 +8,6 @@ use lib.Dec.{leb, eqb}
 use lib.IntN.{ℤ}
 use Rattle.rules.specs.declared.Settings.{Settings}
 use Rattle.rules.specs.declared.Pointer.{Pointer}
-use Rattle.rules.specs.declared.Decoded.{Decoded}
-use Rattle.rules.specs.declared.Decoded.TheVariants.{At, Bad}
 use Rattle.rules.specs.Words.{pick, unless}
 use Rattle.rules.specs.States.{with_middle}
 use Rattle.rules.specs.Board.{board_refusal}
@@ -58,10 +57,10 @@ module _ (B : List ℤ) (code : ℕ) (d : Desk) where
       subst⁻¹ (λ (n : ℕ). Done (pick (eqb n 0) (play_at B code x d) (done n d)) (step_at B code x (by_hand d))) (refusal_blind d.position.settings.mode code x d)
       (pick_two Done (eqb (refusal_at code x (by_hand d)) 0) (play_harmless x) (λ _ r _. refused_harmless r))
 
-  step_by : (p : Decoded) → Done (step_by_of B code p d) (step_by_of B code p (by_hand d))
+  step_by : (p : Option Pointer) → Done (step_by_of B code p d) (step_by_of B code p (by_hand d))
   unfolding step_by_of
-  step_by (At x) = step_at_lem x
-  step_by Bad = λ _ r _. refused_harmless r
+  step_by (Some x) = step_at_lem x
+  step_by None = λ _ r _. refused_harmless r
 
 -- THE step, accepted or refused
 pub step_harmless : (B : List ℤ) (code r c : ℕ) (d : Desk) → LawfulAt B d → AddsNoHarm B (step_on B code r c (by_hand d)).desk (step_on B code r c d).desk

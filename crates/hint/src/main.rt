@@ -53,6 +53,7 @@ fn write_book<W: Write>(to: &mut W, s: &[u8]) -> io::Result<()>
     let mut text = player::text_room();
     let n = last_board::play_to_end(s, &mut shown, &mut text);
     let b = book::read_book(s);
+    // A `Book` holds its number, since the definition `book_of` gives it so.
     if b.number != 0 {
         return hand(to, s, &text[..n]);
     }

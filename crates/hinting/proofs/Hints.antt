@@ -15,7 +15,7 @@ use Rattle.rules.specs.declared.Hint.{Hint}
 use Rattle.rules.specs.declared.Hint.TheVariants.{Cell, Nothing, Refused}
 use Rattle.rules.specs.Trainer.{justifies, offered, offered_cell, justifier, cell_by, hint_at, hint_by, hint_of}
 use Rattle.cells.proofs.Firsts.{first_none}
-use Rattle.trainer.proofs.Firsts.{misses, first_found, first_is, first_before, none_all}
+use Rattle.trainer.proofs.Firsts.{misses, found_at, found_none, first_found, first_is, first_before, none_all}
 use Rattle.trainer.proofs.Hints.{beside, offered_justifier, justifier_justifies, offer_none, offer_cell, hint_offer}
 use Rattle.hinting.specs.Hints.{Fine, First, Found, HintFirst, HintNone}
 
@@ -24,7 +24,7 @@ module _ (R C : ℕ) (shown : List ℕ) where
   gives i k fine f =
       let a = first_found (offered R C shown) (R * C) i (none_all (offered R C shown) i f.before) f.offer f.on in
       let b = first_found (beside R C shown i) 8 k (none_all (beside R C shown i) k f.sooner) f.number f.place in
-      sym (hint_offer R C shown fine) ∙ sym (offer_cell R C shown refl a f.on) ∙ ap (λ (x : ℕ). cell_by C i (neighbour R C i x)) (sym b)
+      sym (hint_offer R C shown fine) ∙ sym (offer_cell R C shown i (found_at (R * C) (offered_cell R C shown) i a f.on)) ∙ ap (λ (x : ℕ). cell_by C i (neighbour R C i x)) (sym b)
 
   -- where there is a first cell, it is found
   found : offered_cell R C shown < R * C → First R C shown (offered_cell R C shown) (justifier R C shown (offered_cell R C shown))
@@ -53,7 +53,7 @@ module _ (R C : ℕ) (shown : List ℕ) where
   nothing : Fine R C shown → ((i : ℕ) → i < R * C → offered R C shown i ≡ false) → hint_of R C shown ≡ Nothing
   nothing fine h =
       let e = first_none (misses (offered R C shown)) (R * C) (none_all (offered R C shown) (R * C) h) in
-      sym (hint_offer R C shown fine) ∙ sym (offer_none R C shown refl (sym e) (omega arith))
+      sym (hint_offer R C shown fine) ∙ sym (offer_none R C shown (found_none (R * C) (offered_cell R C shown) (omega arith)))
 
 -- ---- which hint it is --------------------------------------------------------------------------------------------------------------------
 

@@ -5,9 +5,9 @@ use mathlib.Core.List.{List}
 use Prim.Native.Nat.{ℕ, ◌+◌, ◌*◌, ◌/◌, ◌%◌, ◌<◌, ◌≤◌}
 use native.Mathlib.Omega.{arith}
 use native.Mathlib.Numerals.{add-one}
-use borrow.Author.Tests.{eq-eqb, ne_eqb, lt-ltb, le-ltb, eqb-true, eqb-false}
-use lib.Dec.{eqb}
-use lib.ListN.{length, get_or, set, get_or-eq_default, length-set, length-take, length-drop, length-replicate, get_or-replicate}
+use borrow.Author.Tests.{lt-ltb, le-ltb, eqb-true, eqb-false}
+use lib.Dec.{eqb, ltb}
+use lib.ListN.{length, get_or, set, length-set, length-take, length-drop, length-replicate, get_or-replicate}
 use lib.Seq.{get_or-set_same, get_or-set_other, get_or-take, get_or-drop, ext_get_or}
 use Rattle.rules.specs.Words.{stack_of}
 use Rattle.rules.specs.Grid.{neighbour, cell_before, ninth, push_if, pushed}
@@ -60,25 +60,17 @@ module _ (cells : ℕ) (w : List ℕ) (room : work_room cells ≤ length w) wher
       ext_get_or 0 (marks_of cells w) (unmarked cells) (l ∙ sym (length-replicate cells 0))
       (λ i lt. let k : i < cells = rw l at lt in marks_at cells w i k ∙ z (stack_room cells + i) (omega arith) ∙ sym (get_or-replicate cells i 0 0 k))
 
-  pub free_yes : (q : ℕ) → q < cells → get_or w (stack_room cells + q) 0 ≡ 0 → true ≡ free_at (marks_of cells w) q
+  pub free_on : (q : ℕ) → q < cells → eqb (get_or w (stack_room cells + q) 0) 0 ≡ free_at (marks_of cells w) q
   unfolding free_at
-  free_yes q h e = rw (marks_length cells w room, marks_at cells w q h, lt-ltb q cells h, eq-eqb _ _ e)
+  free_on q h = rw (marks_length cells w room, marks_at cells w q h, lt-ltb q cells h)
 
-  pub free_marked : (q : ℕ) → q < cells → (get_or w (stack_room cells + q) 0 ≡ 0 → ⊥) → false ≡ free_at (marks_of cells w) q
-  unfolding free_at
-  free_marked q h e = rw (marks_length cells w room, marks_at cells w q h, lt-ltb q cells h, ne_eqb _ _ e)
-
-  pub free_off : (q : ℕ) → cells ≤ q → false ≡ free_at (marks_of cells w) q
+  pub free_off : (q : ℕ) → cells ≤ q → ltb q cells ≡ free_at (marks_of cells w) q
   unfolding free_at
   free_off q h = rw (marks_length cells w room, le-ltb q cells h)
 
   -- a cell without a mark in the work is a cell
   pub free_cell : (q : ℕ) → free_at (marks_of cells w) q ≡ true → q < cells
   free_cell q e = rw (marks_length cells w room) at (free_fact (marks_of cells w) q e).0
-
--- off the shown board nothing shows 11
-pub off_ne : (shown : List ℕ) (q : ℕ) → length shown ≤ q → get_or shown q 0 ≡ 11 → ⊥
-off_ne shown q h e = let d : get_or shown q 0 ≡ 0 = get_or-eq_default shown 0 h in omega arith
 
 -- ---- pushes --------------------------------------------------------------------------------------------------------------------------
 

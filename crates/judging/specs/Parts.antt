@@ -1,5 +1,5 @@
 -- What the parts of the walks require and ensure: the marks above the stack in the lent work, one turn, one walk, one cell judged, the cells of a stack judged.
-use Rattle.std.specs.Prelude.{◌≡◌, Bool, true, false, List, [], ℕ, ◌+◌, ◌*◌, ◌≤◌, length, set, take, drop, ℤ}
+use Rattle.std.specs.Prelude.{◌≡◌, Bool, true, false, Option, None, Some, List, [], ℕ, ◌+◌, ◌*◌, ◌≤◌, length, set, take, drop, ℤ}
 use Rattle.rules.specs.Words.{stack_of}
 use Rattle.rules.specs.Grid.{pushed}
 use Rattle.rules.specs.Lent.{work_room}
@@ -20,6 +20,15 @@ marks_of cells w = take cells (drop (stack_room cells) w)
 pub record Walkable (B : List ℤ) (work : List ℕ) (R C : ℕ) : Type 0 where
   pub mined : Mined B R C
   pub room : work_room (R * C) ≤ length work
+
+-- where the top stands after a turn, and whether no flag was met: a stop leaves the stack empty
+abbrev pub top_of : Option ℕ → ℕ
+top_of None = 0
+top_of (Some t) = t
+
+abbrev pub unstopped : Option ℕ → Bool
+unstopped None = false
+unstopped (Some t) = true
 
 -- the cell was taken off the stack of w, whose top is now at t, and worked off: w, t and whole became those with a prime
 pub record Stepped (B : List ℤ) (R C : ℕ) (shown : List ℕ) (i t : ℕ) (w : List ℕ) (whole : Bool) (w' : List ℕ) (t' : ℕ) (whole' : Bool) : Type 0 where

@@ -3,14 +3,17 @@
 #![tactic(auto)]
 
 ghost use Rattle.std.specs.Prelude.{◌≡◌, true, false, [], ◌+◌, ◌-◌, ◌*◌, ◌<◌, ◌≤◌, eqb, length, get_or, set};
+ghost use Rattle.rules.specs.Cells.{cell_list};
 ghost use Rattle.rules.specs.Words.{stack_of};
 ghost use Rattle.rules.specs.Grid.{push_if, cells_if, pushed};
 ghost use Rattle.rules.specs.Lent.{work_room};
 ghost use Rattle.rules.specs.Judging.{free_at, judged_left, openings_judged, total3bv, not_open_at, left_to_solve};
 ghost use Rattle.cells.specs.Ground.{Sized, Mined, Zeros, Below};
 ghost use Rattle.cells.specs.Promises.{Laid, Leaves};
-ghost use Rattle.cells.specs.Stack.{Grown};
-ghost use Rattle.judging.specs.Parts.{stack_room, marks_of, Walkable, Stepped, Went, Judged, JudgedIf, Tallied};
+ghost use Rattle.cells.specs.Stack.{stacked, Grown};
+ghost use Rattle.judging.specs.Parts.{stack_room, marks_of, top_of, unstopped, Walkable, Stepped, Went, Judged, JudgedIf, Tallied};
+
+use rules::Cells;
 
 // The cell q is on the board and has no mark.
 fn free(work: &[u16], size: usize, q: usize) -> bool
@@ -18,13 +21,7 @@ fn free(work: &[u16], size: usize, q: usize) -> bool
     requires size_in_bounds { work_room size ≤ length work.now }
     ensures { result ≡ free_at (marks_of size work.now) q }
 {
-    if q < size {
-        let at = 7 * size + 8 + q;
-        if work[at] == 0 {
-            return true;
-        }
-    }
-    false
+    q < size && work[7 * size + 8 + q] == 0
 }
 
 // Pushes q if it has no mark.
@@ -65,12 +62,7 @@ fn push_around(work: &mut [u16], rows: usize, columns: usize, cell: usize, top: 
 fn flagged(shown: &[u8], cell: usize) -> bool
     ensures { result ≡ eqb (get_or shown.now cell 0) 11 }
 {
-    if cell < shown.len() {
-        if shown[cell] == 11 {
-            return true;
-        }
-    }
-    false
+    cell < shown.len() && shown[cell] == 11
 }
 
 // Marks a 0 and pushes its neighbours without a mark.
@@ -86,14 +78,7 @@ fn mark_zero(work: &mut [u16], rows: usize, columns: usize, cell: usize, top: us
     push_around(work, rows, columns, cell, top)
 }
 
-// Where the stack's top stands, and whether no flag was met.
-#[derive(Clone, Copy)]
-pub struct Turn {
-    pub top: usize,
-    pub whole: bool,
-}
-
-// Takes the top cell off the stack and works it off; a stop leaves the stack empty.
+// Takes the top cell off the stack and works it off; gives where the top then stands, or nothing where a flag stops the walk.
 fn walk_top(
     mines: &[i8],
     shown: &[u8],
@@ -101,31 +86,27 @@ fn walk_top(
     rows: usize,
     columns: usize,
     top: usize,
-    whole: bool,
-) -> Turn
+) -> Option<usize>
     requires walkable { Walkable mines.now work.old rows columns }
     requires top_nonzero { 0 < top }
     requires top_bound { top ≤ stack_room (rows * columns) }
     requires top_bound_2 { free_at (marks_of (rows * columns) work.old) (get_or work.old (top - 1) 0) ≡ true → top ≤ 7 * (rows * columns) + 1 }
-    ensures { Stepped mines.now rows columns shown.now (get_or work.old (top - 1) 0) (top - 1) work.old whole work.new result.top result.whole }
+    ensures { Stepped mines.now rows columns shown.now (get_or work.old (top - 1) 0) (top - 1) work.old true work.new (top_of result) (unstopped result) }
 {
     let at = top - 1;
-    let cell = work[at] as usize;
+    let cell = usize::from(work[at]);
     if !free(work, rows * columns, cell) {
-        return Turn { top: at, whole };
+        return Some(at);
     }
     let v = cells::face_at(mines, cell);
     if v != 0 {
-        return Turn { top: at, whole };
+        return Some(at);
     }
     if flagged(shown, cell) {
-        return Turn {
-            top: 0,
-            whole: false,
-        };
+        return None;
     }
     let t = mark_zero(work, rows, columns, cell, at);
-    Turn { top: t, whole }
+    Some(t)
 }
 
 // A whole walk from one cell, on the marks that are there.
@@ -143,13 +124,13 @@ fn walk(
 {
     work[0] = start as u16;
     let mut top = 1;
-    let mut whole = true;
     while 0 < top {
-        let t = walk_top(mines, shown, work, rows, columns, top, whole);
-        top = t.top;
-        whole = t.whole;
+        let Some(next) = walk_top(mines, shown, work, rows, columns, top) else {
+            return false;
+        };
+        top = next;
     }
-    whole
+    true
 }
 
 // LEFT: the opening of a 0 has no cell showing 11.
@@ -170,7 +151,7 @@ pub fn cell_is_op_completed(
     whole
 }
 
-// Openings counted, and whether a walk was made.
+// Openings counted, and whether a walk was made: no Option, since a walk that a flag stops leaves its marks and counts nothing.
 #[derive(Clone, Copy)]
 pub struct Sum {
     pub count: usize,
@@ -218,21 +199,20 @@ fn judge_cells(
     work: &mut [u16],
     rows: usize,
     columns: usize,
-    at: [u16; 8],
-    n: usize,
+    cells: &[u16],
 ) -> Sum
     requires walkable { Walkable mines.now work.old rows columns }
     requires zeros { Zeros (work_room (rows * columns)) work.old }
-    requires n_bound { n ≤ 8 }
-    requires below { Below (rows * columns) (stack_of at n) }
-    ensures { Tallied mines.now rows columns shown.now (stack_of at n) work.old work.new result }
+    requires n_bound { length cells.now ≤ 8 }
+    requires below { Below (rows * columns) cells.now }
+    ensures { Tallied mines.now rows columns shown.now (stacked cells.now) work.old work.new result }
 {
     let mut sum = Sum {
         count: 0,
         walked: false,
     };
-    for i in 0..n {
-        let q = cells::index(at[i]);
+    for cell in cells {
+        let q = usize::from(*cell);
         sum = judge_one(mines, shown, work, rows, columns, q, sum);
     }
     sum
@@ -245,15 +225,13 @@ pub fn op_num_around_cell(
     work: &mut [u16],
     rows: usize,
     columns: usize,
-    cells: rules::Cells,
+    cells: Cells,
 ) -> usize
     requires laid { Laid mines.now shown.now work.old rows columns }
-    requires n_bound { cells.n ≤ 8 }
-    requires below { Below (rows * columns) (stack_of cells.at cells.n) }
-    ensures { Leaves result (openings_judged mines.now rows columns shown.now (stack_of cells.at cells.n)) work.old work.new }
+    requires below { Below (rows * columns) (cell_list cells) }
+    ensures { Leaves result (openings_judged mines.now rows columns shown.now (stacked (cell_list cells))) work.old work.new }
 {
-    let at = cells.at;
-    let sum = judge_cells(mines, shown, work, rows, columns, at, cells.n);
+    let sum = judge_cells(mines, shown, work, rows, columns, cells.as_slice());
     if sum.walked {
         cells::clear(work, 8 * (rows * columns) + 8);
     }
@@ -275,12 +253,10 @@ fn judge_left(
     requires count_bound { sum.count ≤ 2048 }
     ensures { JudgedIf (not_open_at shown.now q) mines.now rows columns q work.old sum work.new result }
 {
-    let due = lones::not_open(shown, q);
-    if !due {
+    if !lones::not_open(shown, q) {
         return sum;
     }
-    let none = [0u8; 0];
-    judge_one(mines, &none, work, rows, columns, q, sum)
+    judge_one(mines, &[], work, rows, columns, q, sum)
 }
 
 // The openings with a 0 that is not open: the walks from those of the board's cells, in row order.
@@ -326,6 +302,5 @@ pub fn total_3bv(mines: &[i8], work: &mut [u16], rows: usize, columns: usize) ->
     requires zeros { Zeros (work_room (rows * columns)) work.old }
     ensures { Leaves result (total3bv mines.now rows columns) work.old work.new }
 {
-    let none = [0u8; 0];
-    left_to_solve(mines, &none, work, rows, columns)
+    left_to_solve(mines, &[], work, rows, columns)
 }

@@ -1,5 +1,7 @@
 -- No call, accepted or refused, leads from a position that the position check accepts to one that it does not; and setup leads to one that it accepts.
 -- No call changes the settings, so none the league's rules.
+use Rattle.std.specs.Prelude.{Option, Some, None}
+use Rattle.rules.specs.declared.Pointer.{Pointer}
 use mathlib.Core.Path.{◌≡◌, ◌∙◌, sym, refl, ap}
 use mathlib.Core.Bool.{Bool, true, false, true≢false}
 use mathlib.Core.List.{List}
@@ -11,13 +13,11 @@ use lib.ListN.{get_or}
 use Rattle.rules.specs.declared.Settings.{Settings}
 use Rattle.rules.specs.declared.Position.{Position}
 use Rattle.rules.specs.declared.Answer.{Answer}
-use Rattle.rules.specs.declared.Decoded.{Decoded}
-use Rattle.rules.specs.declared.Decoded.TheVariants.{At, Bad}
 use Rattle.rules.specs.declared.GameState.TheVariants.{Loss}
 use Rattle.rules.specs.Words.{pick, unless}
 use Rattle.rules.specs.States.{mouse_number, is_loss, with_game, with_middle, fresh_of}
 use Rattle.rules.specs.Board.{face_at}
-use Rattle.rules.specs.Clicks.{Desk, Play, desk, done, on}
+use Rattle.rules.specs.Clicks.{Desk, Play, done, on}
 use Rattle.rules.specs.Mouse.{rules_ok, resolved, flipped}
 use Rattle.rules.specs.Step.{pointer_of, plain_code, plain_on}
 use Rattle.rules.specs.Lawful.{cell_lawful, unopened_in}
@@ -98,10 +98,10 @@ reset_keeps B d e =
     setup_by_lem B d (setup_refusal d.position.settings B d.shown d.bits) (setup_keeps d.position.settings B d.shown d.bits) e
 
 -- resolve
-resolve_by_keeps : (B : List ℤ) (code : ℕ) (w : Decoded) (d : Desk) → Accepts B d → Accepts B (on d (resolve_by code w d.position).position)
+resolve_by_keeps : (B : List ℤ) (code : ℕ) (w : Option Pointer) (d : Desk) → Accepts B d → Accepts B (on d (resolve_by code w d.position).position)
 unfolding resolve_by
-resolve_by_keeps B code Bad d e = e
-resolve_by_keeps B code (At x) d e =
+resolve_by_keeps B code None d e = e
+resolve_by_keeps B code (Some x) d e =
     let l = check_lawful B d e in
     let flip = flipped code d.position.middle in
     pick_both (λ (a : Answer). Accepts B (on d a.position)) (ltb d.position.events 65535)
@@ -208,14 +208,14 @@ pub reset_rules : (B : List ℤ) (d : Desk) → (reset_of B d).answer.position.s
 reset_rules B d = settled_rules d (reset_of B d).answer (reset_settled B d)
 
 -- resolve
-resolve_settled : (code : ℕ) (w : Decoded) (B : List ℤ) (d : Desk) → Settled d (pick (eqb (position_check B d) 0) (resolve_by code w d.position) (refuses B d.position (position_check B d)))
+resolve_settled : (code : ℕ) (w : Option Pointer) (B : List ℤ) (d : Desk) → Settled d (pick (eqb (position_check B d) 0) (resolve_by code w d.position) (refuses B d.position (position_check B d)))
 unfolding resolve_by
 resolve_settled code w B d =
     pick_both (Settled d) (eqb (position_check B d) 0) (resolve_by code w d.position) (refuses B d.position (position_check B d)) (λ _. go w) (λ _. refl)
   where
-    go : (w : Decoded) → Settled d (resolve_by code w d.position)
-    go Bad = refl
-    go (At x) =
+    go : (w : Option Pointer) → Settled d (resolve_by code w d.position)
+    go None = refl
+    go (Some x) =
         pick_both (Settled d) (ltb d.position.events 65535)
         (answers 0 (with_middle d.position (flipped code d.position.middle)) (resolved d.position.settings.rules code (mouse_number d.position.mouse) d.position.middle))
         (answers 31 d.position 0) (λ _. refl) (λ _. refl)

@@ -14,7 +14,7 @@ use Rattle.rules.specs.Words.{pick}
 use Rattle.rules.specs.States.{is_not_flag}
 use Rattle.rules.specs.Board.{face_at, mine_at}
 use Rattle.rules.specs.Opening.{closed_at, refreshed, count_shown, is_open}
-use Rattle.rules.specs.Clicks.{Desk, desk, add_left, left_counts, solves_left, left_opens, left_click, ended}
+use Rattle.rules.specs.Clicks.{Desk, add_left, left_counts, solves_left, left_opens, left_click, ended}
 use Rattle.cells.specs.Ground.{Valued}
 use Rattle.cells.proofs.Words.{bit_le}
 use Rattle.opening.proofs.Cost.{face_range}

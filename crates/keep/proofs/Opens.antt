@@ -1,4 +1,5 @@
 -- No step closes an open cell: there are never fewer cells that show 0 to 8. So what a step opens can be read from the safe cells still closed.
+use Rattle.std.specs.Prelude.{Option, Some, None}
 use mathlib.Core.Path.{◌≡◌, ◌∙◌, sym, refl, ap}
 use mathlib.Core.Bool.{Bool, true, false, not, ◌&&◌}
 use mathlib.Core.List.{List, [], ◌∷◌}
@@ -11,8 +12,6 @@ use lib.IntN.{ℤ}
 use Rattle.rules.specs.declared.Settings.{Settings}
 use Rattle.rules.specs.declared.Pointer.{Pointer}
 use Rattle.rules.specs.declared.Pointer.TheVariants.{Cell, Off}
-use Rattle.rules.specs.declared.Decoded.{Decoded}
-use Rattle.rules.specs.declared.Decoded.TheVariants.{At, Bad}
 use Rattle.rules.specs.declared.Event.{Event}
 use Rattle.rules.specs.declared.Event.TheVariants.{Lc, Lr, Rc, Rr, Mv, Mc, Mr, Cc, Pf, Unknown}
 use Rattle.rules.specs.declared.GameState.{GameState}
@@ -294,10 +293,10 @@ module _ (B : List ℤ) (v : Valued B) (n : ℕ) where
   unfolding step_at
   at_opens code x d h = either (eqb (refusal_at code x d) 0) _ _ (play_opens code x d h) (record { wide = h })
 
-  by_opens : (code : ℕ) (w : Decoded) (d : Desk) → Wide n d → Opens n (step_by_of B code w d)
+  by_opens : (code : ℕ) (w : Option Pointer) (d : Desk) → Wide n d → Opens n (step_by_of B code w d)
   unfolding step_by_of
-  by_opens code (At x) d h = at_opens code x d h
-  by_opens code Bad d h = record { wide = h }
+  by_opens code (Some x) d h = at_opens code x d h
+  by_opens code None d h = record { wide = h }
 
 -- THE LAW: as many cells are open after a step as before, at least
 pub step_opens : (B : List ℤ) → Valued B → (code r c : ℕ) (d : Desk) → open_in d.shown ≤ open_in (step_on B code r c d).desk.shown

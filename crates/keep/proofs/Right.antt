@@ -12,7 +12,7 @@ use Rattle.rules.specs.Words.{pick, bit}
 use Rattle.rules.specs.States.{is_loss, is_playing}
 use Rattle.rules.specs.Board.{face_at}
 use Rattle.rules.specs.Opening.{closed_at, count_shown, is_open}
-use Rattle.rules.specs.Clicks.{Desk, desk, done, showing, add_right, flagged, unflagged, take_back, adds_rce}
+use Rattle.rules.specs.Clicks.{Desk, done, showing, add_right, flagged, unflagged, take_back, adds_rce}
 use Rattle.rules.specs.Passes.{right_click, passes_after_flag}
 use Rattle.rules.specs.Lawful.{shows, is_flag, is_won}
 use Rattle.cells.proofs.Words.{bit_le}

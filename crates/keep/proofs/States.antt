@@ -21,7 +21,7 @@ use Rattle.rules.specs.Words.{pick, bit}
 use Rattle.rules.specs.States.{is_loss, is_not_flag, is_playing, with_game, with_mouse, with_middle, with_preflags, with_right}
 use Rattle.rules.specs.Grid.{cell_of}
 use Rattle.rules.specs.Opening.{count_shown, is_open}
-use Rattle.rules.specs.Clicks.{Desk, Play, desk, done, on, columns_of, add_left, left_click}
+use Rattle.rules.specs.Clicks.{Desk, Play, done, on, columns_of, add_left, left_click}
 use Rattle.rules.specs.Passes.{right_click, chording_click}
 use Rattle.rules.specs.Mouse.{moved}
 use Rattle.rules.specs.Step.{mouse, move, on_cell, seen_at, left_at, right_at, chord_at, chord_from, play_lc, play_lr, play_rc, play_rr, playing, pre_flag, ready_lc, ready_rc, ready, cleared, cleared_if, back_if, pre_left, pre_lr, last_taken_back, pre_cell, pre_right, back_to_ready, pre_rc, pre_flaging, by_game}

@@ -1,4 +1,5 @@
 -- Every step and every play of a flow keeps the lawful position and the settings.
+use Rattle.std.specs.Prelude.{Option, Some, None}
 use mathlib.Core.Path.{◌≡◌, ◌∙◌, sym, ap, refl, subst, subst⁻¹}
 use mathlib.Core.Bool.{Bool, true, false, ◌&&◌, true≢false, false≢true}
 use mathlib.Core.List.{List, [], ◌∷◌}
@@ -11,8 +12,6 @@ use lib.IntN.{ℤ}
 use Rattle.rules.specs.declared.Settings.{Settings}
 use Rattle.rules.specs.declared.Pointer.{Pointer}
 use Rattle.rules.specs.declared.Pointer.TheVariants.{Cell, Off}
-use Rattle.rules.specs.declared.Decoded.{Decoded}
-use Rattle.rules.specs.declared.Decoded.TheVariants.{At, Bad}
 use Rattle.rules.specs.declared.Event.{Event}
 use Rattle.rules.specs.declared.Event.TheVariants.{Lc, Lr, Rc, Rr, Mv, Mc, Mr, Cc, Pf, Unknown}
 use Rattle.rules.specs.declared.GameState.{GameState}
@@ -20,7 +19,7 @@ use Rattle.rules.specs.declared.GameState.TheVariants.{Ready, Playing, Win, Loss
 use Rattle.rules.specs.Words.{pick, unless}
 use Rattle.rules.specs.States.{is_loss, with_middle, with_events}
 use Rattle.rules.specs.Opening.{count_shown}
-use Rattle.rules.specs.Clicks.{Desk, Play, desk, done, on}
+use Rattle.rules.specs.Clicks.{Desk, Play, done, on}
 use Rattle.rules.specs.Mouse.{rules_ok, resolved, flipped}
 use Rattle.rules.specs.Step.{mouse, by_game, pointer_of, event_of, plain_of, event_refusal, refusal_at, counts, play_at, step_at, step_by_of, step_on}
 use Rattle.rules.specs.Lawful.{shows, lawful}
@@ -88,11 +87,11 @@ play_keeps n B code x d i h = go (is_loss d.position.game) refl
 
 -- ---- a step ------------------------------------------------------------------------------------------------------------------------------
 
-pub pointer_inside : (s : Settings) (r c : ℕ) (x : Pointer) → pointer_of s r c ≡ At x → Inside s x
+pub pointer_inside : (s : Settings) (r c : ℕ) (x : Pointer) → pointer_of s r c ≡ Some x → Inside s x
 unfolding pointer_of
 pointer_inside s r c x = go (ltb r s.rows && ltb c s.columns) (eqb r s.rows && eqb c s.columns) refl
   where
-    go : (t u : Bool) → (ltb r s.rows && ltb c s.columns) ≡ t → pick t (At (Cell r c)) (pick u (At Off) Bad) ≡ At x → Inside s x
+    go : (t u : Bool) → (ltb r s.rows && ltb c s.columns) ≡ t → pick t (Some (Cell r c)) (pick u (Some Off) None) ≡ Some x → Inside s x
     go true u e q =
         let w : Cell r c ≡ x = cc in
         subst (Inside s) w (ltb-true r s.rows (and_left _ _ e), ltb-true c s.columns (and_right (ltb r s.rows) _ e))
@@ -121,10 +120,10 @@ step_at_lem B code x d i l =
     })
     (λ _. record { lawful = l; settings = refl; told = λ t. t })
 
-step_by : (B : List ℤ) (code : ℕ) (p : Decoded) (d : Desk) → ((x : Pointer) → p ≡ At x → Inside d.position.settings x) → LawfulAt B d → Follows B d (step_by_of B code p d).desk
+step_by : (B : List ℤ) (code : ℕ) (p : Option Pointer) (d : Desk) → ((x : Pointer) → p ≡ Some x → Inside d.position.settings x) → LawfulAt B d → Follows B d (step_by_of B code p d).desk
 unfolding step_by_of
-step_by B code (At x) d i l = step_at_lem B code x d (i x refl) l
-step_by B code Bad d i l = record { lawful = l; settings = refl; told = λ t. t }
+step_by B code (Some x) d i l = step_at_lem B code x d (i x refl) l
+step_by B code None d i l = record { lawful = l; settings = refl; told = λ t. t }
 
 -- THE step, accepted or refused
 pub step_follows : (B : List ℤ) (code r c : ℕ) (d : Desk) → LawfulAt B d → Follows B d (step_on B code r c d).desk

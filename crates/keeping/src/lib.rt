@@ -2,15 +2,13 @@
 // The contracts cite the chapter Slides for the bytes and `writing`'s specs/Put.antt for what writing is; the caller gives the room.
 #![tactic(auto)]
 
-ghost use Rattle.std.specs.Prelude.{◌≡◌, ◌+◌, ◌<◌, ◌≤◌, length, drop};
-ghost use Rattle.rules.specs.Words.{bit};
+ghost use Rattle.std.specs.Prelude.{◌≡◌, ◌+◌, ◌≤◌, length, drop};
 ghost use Rattle.rules.specs.Clicks.{desk};
-ghost use Rattle.rules.specs.Book.{word_at};
 ghost use Rattle.writing.specs.Put.{Room, Put};
 ghost use Rattle.rules.specs.Slides.{four_bytes, fours, state_bytes, numbers_kept, desk_bytes, head_size, slot_size, four_at, settings_in, counts_in, secrets_in, position_in, desk_in};
 ghost use Rattle.keeping.specs.Keeps.{kept_of, Boards, keep_desk};
 
-use rules::{Counts, Position, Secrets, Settings};
+use rules::{Counts, GameState, MouseState, Position, Secrets, Settings};
 
 // The bytes before the shown board.
 pub const HEAD: usize = 56;
@@ -18,22 +16,11 @@ pub const HEAD: usize = 56;
 // ---- put -------------------------------------------------------------------------------------------------------------------------------
 
 // A number's four bytes, the low byte first.
-fn bytes_of(n: u32) -> [u8; 4]
-    ensures { result ≡ four_bytes n }
-{
-    [
-        (n % 256) as u8,
-        (n / 256 % 256) as u8,
-        (n / 65536 % 256) as u8,
-        (n / 16777216) as u8,
-    ]
-}
-
 fn put_four(out: &mut [u8], at: usize, n: u32) -> usize
     requires { Room (four_bytes n) at out.old }
     ensures { Put (four_bytes n) at out.old out.new result }
 {
-    let b = bytes_of(n);
+    let b = n.to_le_bytes();
     writing::put_bytes(out, at, &b)
 }
 
@@ -42,21 +29,10 @@ fn put_fours(out: &mut [u8], at: usize, ns: &[u32]) -> usize
     ensures { Put (fours ns.now) at out.old out.new result }
 {
     let mut o = at;
-    let mut i = 0;
-    while i < ns.len() {
-        o = put_four(out, o, ns[i]);
-        i += 1;
+    for n in ns {
+        o = put_four(out, o, *n);
     }
     o
-}
-
-fn yes_byte(b: bool) -> u8
-    ensures { result ≡ bit b }
-{
-    if b {
-        return 1;
-    }
-    0
 }
 
 // Settings and states.
@@ -64,17 +40,15 @@ fn states(p: Position) -> [u8; 8]
     ensures { result ≡ state_bytes p }
 {
     let s = p.settings;
-    let g = p.game;
-    let m = p.mouse;
     [
         s.rows,
         s.columns,
         s.mode,
-        yes_byte(s.question),
+        u8::from(s.question),
         s.rules,
-        rules::game_number(g),
-        rules::mouse_number(m),
-        yes_byte(p.middle),
+        u8::from(p.game),
+        u8::from(p.mouse),
+        u8::from(p.middle),
     ]
 }
 
@@ -144,20 +118,12 @@ pub fn keep_desk(
 
 // ---- taken up --------------------------------------------------------------------------------------------------------------------------
 
-// A number of two bytes from a place on.
-fn two_at(s: &[u8], at: usize) -> u32
-    requires { at + 2 ≤ length s.now }
-    ensures { (result ≡ word_at s.now at) × (result < 65536) }
-{
-    writing::wide(s[at]) + 256 * writing::wide(s[at + 1])
-}
-
 // A number of four bytes from a place on.
 fn four_at(s: &[u8], at: usize) -> u32
     requires { at + 4 ≤ length s.now }
     ensures { result ≡ four_at s.now at }
 {
-    two_at(s, at) + 65536 * two_at(s, at + 2)
+    u32::from_le_bytes([s[at], s[at + 1], s[at + 2], s[at + 3]])
 }
 
 fn settings_in(s: &[u8]) -> Settings
@@ -204,20 +170,15 @@ fn position_in(s: &[u8]) -> Position
     requires { head_size ≤ length s.now }
     ensures { result ≡ position_in s.now }
 {
-    let settings = settings_in(s);
-    let game = rules::game_at(s[5]);
-    let mouse = rules::mouse_at(s[6]);
-    let counts = counts_in(s);
-    let secrets = secrets_in(s);
     Position {
-        settings,
-        game,
-        mouse,
+        settings: settings_in(s),
+        game: GameState::from(s[5]),
+        mouse: MouseState::from(s[6]),
         middle: s[7] != 0,
         preflags: four_at(s, 8),
         events: four_at(s, 12),
-        counts,
-        secrets,
+        counts: counts_in(s),
+        secrets: secrets_in(s),
     }
 }
 
@@ -229,7 +190,7 @@ pub fn take_desk(room: &[u8], at: usize, shown: &mut [u8], bits: &mut [u8]) -> P
     let cells = at + HEAD;
     let first = cells + shown.len();
     let last = first + bits.len();
-    writing::put_bytes(&mut *shown, 0, &room[cells..first]);
-    writing::put_bytes(&mut *bits, 0, &room[first..last]);
+    shown.copy_from_slice(&room[cells..first]);
+    bits.copy_from_slice(&room[first..last]);
     position_in(&room[at..])
 }

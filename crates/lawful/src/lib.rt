@@ -4,13 +4,14 @@
 
 ghost use Rattle.std.specs.Prelude.{◌≡◌, List, ℕ, ◌+◌, ◌*◌, ◌<◌, ◌≤◌, length, ℤ};
 ghost use Rattle.rules.specs.declared.Position.{Position};
-ghost use Rattle.rules.specs.States.{is_loss, is_not_flag};
+ghost use Rattle.rules.specs.States.{is_not_flag};
+ghost use Rattle.rules.specs.Refusals.{found_number};
 ghost use Rattle.rules.specs.Clicks.{desk};
 ghost use Rattle.rules.specs.Lawful.{unopened_in, cell_lawful, shown_lawful, bits_lawful, counts_lawful, game_lawful, states_lawful, lawful_refusal};
 ghost use Rattle.cells.specs.Ground.{Valued};
 ghost use Rattle.lawful.specs.Parts.{Counted, OneMore, Checkable, cells_lawful, bit_lawful, byte_lawful};
 
-use rules::{GameState, MouseState, Position};
+use rules::{GameState, MouseState, Position, Refusal};
 
 // How many cells show 0 to 8, and how many 11, 14 and 15.
 #[derive(Clone, Copy)]
@@ -25,10 +26,10 @@ fn count_cell(past: Census, x: u8) -> Census
     requires { (past.opens ≤ 65535) × (past.flags ≤ 65535) × (past.wrong ≤ 65535) × (past.hits ≤ 65535) }
     ensures { OneMore past x result }
 {
-    let open = cells::one_if(x <= 8);
-    let flag = cells::one_if(x == 11);
-    let wrong = cells::one_if(x == 14);
-    let hit = cells::one_if(x == 15);
+    let open = u32::from(x <= 8);
+    let flag = u32::from(x == 11);
+    let wrong = u32::from(x == 14);
+    let hit = u32::from(x == 15);
     Census {
         opens: past.opens + open,
         flags: past.flags + flag,
@@ -47,38 +48,16 @@ fn take_census(shown: &[u8]) -> Census
         wrong: 0,
         hits: 0,
     };
-    let mut i = 0;
-    while i < shown.len() {
-        c = count_cell(c, shown[i]);
-        i += 1;
+    for x in shown {
+        c = count_cell(c, *x);
     }
     c
-}
-
-fn is_loss(g: GameState) -> bool
-    ensures { result ≡ is_loss g }
-{
-    match g {
-        GameState::Ready => false,
-        GameState::Playing => false,
-        GameState::Win => false,
-        GameState::Loss => true,
-        GameState::PreFlaging => false,
-    }
 }
 
 fn is_not_flag(m: MouseState) -> bool
     ensures { result ≡ is_not_flag m }
 {
-    match m {
-        MouseState::UpUp => false,
-        MouseState::UpDown => false,
-        MouseState::UpDownNotFlag => true,
-        MouseState::DownUp => false,
-        MouseState::Chording => false,
-        MouseState::ChordingNotFlag => true,
-        MouseState::DownUpAfterChording => false,
-    }
+    matches!(m, MouseState::UpDownNotFlag | MouseState::ChordingNotFlag)
 }
 
 // ---- shown values ----------------------------------------------------------------------------------------------------------------------
@@ -111,14 +90,12 @@ fn cells_lawful(question: bool, loss: bool, mines: &[i8], shown: &[u8]) -> bool
     requires valued { Valued mines.now }
     ensures { result ≡ cells_lawful question loss mines.now shown.now (length shown.now) }
 {
-    let mut i = 0;
-    while i < shown.len() {
+    for i in 0..shown.len() {
         let f = cells::face_at(mines, i);
         let fine = cell_lawful(question, loss, f, shown[i]);
         if !fine {
             return false;
         }
-        i += 1;
     }
     true
 }
@@ -130,8 +107,7 @@ pub fn shown_lawful(p: Position, mines: &[i8], shown: &[u8], c: Census) -> bool
     requires counted { Counted shown.now (length shown.now) c }
     ensures { (bits : List ℕ) → result ≡ shown_lawful mines.now (desk p shown.now bits) }
 {
-    let game = p.game;
-    let loss = is_loss(game);
+    let loss = p.game == GameState::Loss;
     let fine = cells_lawful(p.settings.question, loss, mines, shown);
     fine & ((c.wrong == 0) | (1 <= c.hits))
 }
@@ -178,13 +154,11 @@ pub fn bits_lawful(mines: &[i8], bits: &[u8]) -> bool
     requires valued { Valued mines.now }
     ensures { (p : Position) (shown : List ℕ) → result ≡ bits_lawful mines.now (desk p shown bits.now) }
 {
-    let mut at = 0;
-    while at < bits.len() {
+    for at in 0..bits.len() {
         let fine = byte_lawful(mines, bits, at);
         if !fine {
             return false;
         }
-        at += 1;
     }
     true
 }
@@ -196,15 +170,15 @@ pub fn counts_lawful(p: Position, c: Census, unopened: u32) -> bool
     ensures { (B : List ℤ) (shown bits : List ℕ) → Counted shown (length shown) c → unopened ≡ unopened_in B shown → result ≡ counts_lawful B (desk p shown bits) }
 {
     let n = p.events;
-    let flags = (c.flags as u64) + (c.wrong as u64);
-    let opens = (c.opens as u64) + (c.hits as u64);
-    let doubles = (n as u64) + opens;
-    let solved = (p.secrets.solved_left as u64) + (p.secrets.solved_chord as u64);
-    let sums = ((p.counts.double as u64) <= doubles) & (solved <= (c.opens as u64));
+    let flags = u64::from(c.flags) + u64::from(c.wrong);
+    let opens = u64::from(c.opens) + u64::from(c.hits);
+    let doubles = u64::from(n) + opens;
+    let solved = u64::from(p.secrets.solved_left) + u64::from(p.secrets.solved_chord);
+    let sums = (u64::from(p.counts.double) <= doubles) & (solved <= u64::from(c.opens));
     let rest = (p.secrets.rce <= n)
         & ((p.counts.dce <= n) & ((p.preflags <= n) & ((n <= 65535) & sums)));
     let all = (p.counts.left <= n) & ((p.counts.right <= n) & ((p.counts.lce <= n) & rest));
-    ((p.counts.flag as u64) == flags) & ((p.counts.unopened == unopened) & all)
+    (u64::from(p.counts.flag) == flags) & ((p.counts.unopened == unopened) & all)
 }
 
 // ---- what the states ask ---------------------------------------------------------------------------------------------------------------
@@ -215,8 +189,7 @@ fn game_lawful(g: GameState, p: Position, c: Census) -> bool
 {
     match g {
         GameState::Ready => {
-            let mouse = p.mouse;
-            (c.flags == 0) & ((p.preflags == 0) & (!is_not_flag(mouse) & (c.opens == 0)))
+            (c.flags == 0) & ((p.preflags == 0) & (!is_not_flag(p.mouse) & (c.opens == 0)))
         }
         GameState::PreFlaging => (c.flags <= p.preflags) & (c.opens == 0),
         GameState::Playing => p.counts.unopened != 0,
@@ -229,35 +202,33 @@ fn game_lawful(g: GameState, p: Position, c: Census) -> bool
 pub fn states_lawful(p: Position, c: Census) -> bool
     ensures { (B : List ℤ) (shown bits : List ℕ) → Counted shown (length shown) c → p.counts.unopened ≡ unopened_in B shown → result ≡ states_lawful B (desk p shown bits) }
 {
-    let game = p.game;
-    let mouse = p.mouse;
-    let asked = game_lawful(game, p, c);
+    let asked = game_lawful(p.game, p, c);
     let ruled = cells::rules_ok(p.settings.rules);
-    asked & ((!is_not_flag(mouse) | (1 <= p.counts.right)) & ruled)
+    asked & ((!is_not_flag(p.mouse) | (1 <= p.counts.right)) & ruled)
 }
 
 // ---- the chain -------------------------------------------------------------------------------------------------------------------------
 
-// The refusal of a position that is not lawful, or 0.
-pub fn lawful_refusal(p: Position, mines: &[i8], shown: &[u8], bits: &[u8]) -> u16
+// The refusal of a position that is not lawful.
+pub fn lawful_refusal(p: Position, mines: &[i8], shown: &[u8], bits: &[u8]) -> Result<(), Refusal>
     requires { Checkable mines.now shown.now bits.now }
-    ensures { result ≡ lawful_refusal mines.now (desk p shown.now bits.now) }
+    ensures { found_number result ≡ lawful_refusal mines.now (desk p shown.now bits.now) }
 {
     let c = take_census(shown);
     if !shown_lawful(p, mines, shown, c) {
-        return 261;
+        return Err(Refusal::Shown);
     }
     if !bits_lawful(mines, bits) {
-        return 262;
+        return Err(Refusal::Bits);
     }
     // every open cell is safe: 261 has seen to that
     let safe = boards::safe_cells(mines);
     let unopened = safe - c.opens;
     if !counts_lawful(p, c, unopened) {
-        return 263;
+        return Err(Refusal::Counts);
     }
     if !states_lawful(p, c) {
-        return 264;
+        return Err(Refusal::States);
     }
-    0
+    Ok(())
 }

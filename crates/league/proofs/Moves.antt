@@ -1,4 +1,6 @@
 -- The public calls on a position that the position check accepts, as quiet moves; and setup, which leads to such a position. Assumes nothing.
+use Rattle.std.specs.Prelude.{Option, Some, None}
+use Rattle.rules.specs.declared.Pointer.{Pointer}
 use mathlib.Core.Path.{◌≡◌, refl, ap, ◌∙◌}
 use mathlib.Core.List.{List, [], ◌∷◌}
 use mathlib.Core.Bool.{Bool, true, false, ◌&&◌}
@@ -9,8 +11,6 @@ use lib.Dec.{leb, ltb, eqb}
 use borrow.Author.Tests.{eqb-true, eq-eqb}
 use Rattle.rules.specs.declared.Settings.{Settings}
 use Rattle.rules.specs.declared.Answer.{Answer}
-use Rattle.rules.specs.declared.Decoded.{Decoded}
-use Rattle.rules.specs.declared.Decoded.TheVariants.{At, Bad}
 use Rattle.rules.specs.declared.Place.TheVariants.{Nowhere}
 use Rattle.rules.specs.Words.{pick, unless}
 use Rattle.rules.specs.Grid.{size_ok}
@@ -21,40 +21,7 @@ use Rattle.rules.specs.Mouse.{flipped}
 use Rattle.rules.specs.Opening.{opened_in}
 use Rattle.rules.specs.Lawful.{lawful_refusal}
 use Rattle.rules.specs.Step.{pointer_of, step_on, plain_code, plain_on}
-use Rattle.rules.specs.Calls.{
-  left_by,
-  set_by,
-  Outcome,
-  outcome,
-  answers,
-  refuses,
-  set_up,
-  boards_fit,
-  work_fits,
-  mode_ok,
-  settings_refusal,
-  position_refusal,
-  position_check,
-  lent_refusal,
-  fresh_desk,
-  setup_by,
-  setup_refusal,
-  setup_of,
-  refused,
-  refused_at,
-  accepted,
-  played,
-  tested,
-  resolve_by,
-  resolve_of,
-  step_of,
-  plays,
-  last_play,
-  flowed,
-  flow_refusal,
-  flow_of,
-  cells_in,
-}
+use Rattle.rules.specs.Calls.{left_by, set_by, Outcome, outcome, answers, refuses, set_up, boards_fit, work_fits, mode_ok, settings_refusal, position_refusal, position_check, lent_refusal, fresh_desk, setup_by, setup_refusal, setup_of, refused, refused_at, accepted, played, tested, resolve_by, resolve_of, step_of, plays, last_play, flowed, flow_refusal, flow_of}
 use Rattle.cells.proofs.Words.{pick_both, unless_passed}
 use Rattle.keep.proofs.Calls.{setup_keeps, resolve_call_keeps, step_call_keeps, flow_call_keeps}
 use Rattle.board.specs.Pair.{pair_by, pair_of}
@@ -157,19 +124,19 @@ step_plays B code r c d work e = event_plays B (plain_on B code r c d) d work e
 -- ---- resolve, and the pair -------------------------------------------------------------------------------------------------------------------
 
 -- what resolve leaves where 20 to 264 do not refuse, answering n where 30 and 31 do not either
-resolving : ℕ → ℕ → Decoded → Desk → Play
-resolving n code (At x) d = pick (ltb d.position.events 65535) (done n (flipped_at code d)) (done 31 d)
-resolving n code Bad d = done 30 d
+resolving : ℕ → ℕ → Option Pointer → Desk → Play
+resolving n code (Some x) d = pick (ltb d.position.events 65535) (done n (flipped_at code d)) (done 31 d)
+resolving n code None d = done 30 d
 
 resolve_heard : (B : List ℤ) (code r c : ℕ) (d : Desk) → position_check B d ≡ 0
     → resolve_of B code r c d ≡ resolve_by code (pointer_of d.position.settings r c) d.position
 unfolding resolve_of
 resolve_heard B code r c d e = simp (eq-eqb _ _ e)
 
-resolve_by_plays : (code : ℕ) (w : Decoded) (d : Desk) (work : List ℕ) → play_of (outcome (resolve_by code w d.position) d.shown d.bits work) ≡ resolving 0 code w d
+resolve_by_plays : (code : ℕ) (w : Option Pointer) (d : Desk) (work : List ℕ) → play_of (outcome (resolve_by code w d.position) d.shown d.bits work) ≡ resolving 0 code w d
 unfolding resolve_by resolving
-resolve_by_plays code Bad d work = refl
-resolve_by_plays code (At x) d work = go (ltb d.position.events 65535)
+resolve_by_plays code None d work = refl
+resolve_by_plays code (Some x) d work = go (ltb d.position.events 65535)
   where
     go : (b : Bool) → play_of (outcome (pick b (answers 0 (flipped_at code d).position (plain_at_of code d)) (answers 31 d.position 0)) d.shown d.bits work)
         ≡ pick b (done 0 (flipped_at code d)) (done 31 d)
@@ -177,11 +144,11 @@ resolve_by_plays code (At x) d work = go (ltb d.position.events 65535)
     go false = refl
 
 -- with too little work the pair resolves, and its step is refused with 21
-short_by : (B : List ℤ) (code r c : ℕ) (w : Decoded) (d : Desk) (work : List ℕ) → work_fits d.position.settings work ≡ false → position_check B d ≡ 0
+short_by : (B : List ℤ) (code r c : ℕ) (w : Option Pointer) (d : Desk) (work : List ℕ) → work_fits d.position.settings work ≡ false → position_check B d ≡ 0
     → play_of (pair_by B r c d work (resolve_by code w d.position)) ≡ resolving 21 code w d
 unfolding resolve_by resolving
-short_by B code r c Bad d work f e = refl
-short_by B code r c (At x) d work f e = go (ltb d.position.events 65535)
+short_by B code r c None d work f e = refl
+short_by B code r c (Some x) d work f e = go (ltb d.position.events 65535)
   where
     go : (b : Bool) → play_of (pair_by B r c d work (pick b (answers 0 (flipped_at code d).position (plain_at_of code d)) (answers 31 d.position 0)))
         ≡ pick b (done 21 (flipped_at code d)) (done 31 d)
@@ -203,9 +170,9 @@ resolving_quiet : (n code r c : ℕ) (d : Desk)
 unfolding resolving
 resolving_quiet n code r c d = go (pointer_of d.position.settings r c)
   where
-    go : (w : Decoded) → Quiet a_play (lost_in d) d.shown (λ B h. resolving n code w (over d h))
-    go Bad = idle (lost_in d) 30 d refl
-    go (At x) =
+    go : (w : Option Pointer) → Quiet a_play (lost_in d) d.shown (λ B h. resolving n code w (over d h))
+    go None = idle (lost_in d) 30 d refl
+    go (Some x) =
         branch a_play (lost_in d) d.shown (ltb d.position.events 65535) (λ _. idle (lost_in d) n (flipped_at code d) refl) (λ _. idle (lost_in d) 31 d refl)
 
 -- ---- step_flow -----------------------------------------------------------------------------------------------------------------------------
@@ -320,10 +287,10 @@ step_place B code r c d work e =
     fits_place t (lent_refusal B d work) (played d.shown (plain_on B code r c d) work) B d work
     (more_to_fit (boards_fit d.position.settings B d.shown d.bits) t B d e) (played_place d.shown (plain_on B code r c d) work)
 
-resolve_by_place : (code : ℕ) (w : Decoded) (d : Desk) → (resolve_by code w d.position).place ≡ Nowhere
+resolve_by_place : (code : ℕ) (w : Option Pointer) (d : Desk) → (resolve_by code w d.position).place ≡ Nowhere
 unfolding resolve_by
-resolve_by_place code Bad d = refl
-resolve_by_place code (At x) d =
+resolve_by_place code None d = refl
+resolve_by_place code (Some x) d =
     pick_both (λ (a : Answer). a.place ≡ Nowhere) (ltb d.position.events 65535) (answers 0 (flipped_at code d).position (plain_at_of code d)) (answers 31 d.position 0)
     (λ _. refl) (λ _. refl)
 

@@ -15,7 +15,7 @@ use Rattle.rules.specs.Lent.{work_room}
 use Rattle.rules.specs.Clicks.{Desk, Play, on}
 use Rattle.rules.specs.Step.{step_on}
 use Rattle.rules.specs.Calls.{left_by, set_by, fresh_desk, Outcome, outcome, work_fits, setup_of, resolve_of, step_of, flow_of, cells_in}
-use Rattle.secrecy.specs.Demand.{seen_of, plays_on, game}
+use Rattle.secrecy.specs.Demand.{plays_on, game}
 use Rattle.secrecy.proofs.Rows.{row_of}
 use Rattle.league.specs.Secret.{Function, resolve, step, pair, flow, Call, PairIs, unheard, stepped, CallIs, play_of, Row, none, next, Playable, steps_of, StepsPlay}
 use Rattle.league.proofs.Moves.{pair_move}

@@ -1,5 +1,6 @@
 -- The league's rules in whole games: under rules 1 every step is document 01's, under rules 2 every step but `r` in UpDownNotFlag, which is its `rr`; an
 -- old book prints what it printed; and demands 1 and 3 hold by each. Assumes nothing.
+use Rattle.std.specs.Prelude.{Option, Some, None}
 use mathlib.Core.Path.{◌≡◌, refl, ap, ap₂, ◌∙◌}
 use mathlib.Core.Bool.{Bool}
 use mathlib.Core.List.{List, [], ◌∷◌}
@@ -11,8 +12,6 @@ use lib.Dec.{ltb, leb, eqb}
 use lib.IntN.{ℤ}
 use Rattle.rules.specs.declared.Settings.{Settings}
 use Rattle.rules.specs.declared.Pointer.{Pointer}
-use Rattle.rules.specs.declared.Decoded.{Decoded}
-use Rattle.rules.specs.declared.Decoded.TheVariants.{At, Bad}
 use Rattle.rules.specs.declared.Event.{Event}
 use Rattle.rules.specs.declared.Book.{Book}
 use Rattle.rules.specs.Words.{pick, unless}
@@ -55,10 +54,10 @@ module _ (B : List ℤ) (code before : ℕ) (d : Desk)
   play_same x =
       ap₂ (λ (e : Event) (b : Bool). counts d (by_game d.position.game B e (on d (with_middle d.position b)))) (plain_same x) flips
 
-  by_same : (w : Decoded) → step_by_of B code w d ≡ step_by_before B before w d
+  by_same : (w : Option Pointer) → step_by_of B code w d ≡ step_by_before B before w d
   unfolding step_by_of step_by_before step_at step_at_before
-  by_same (At x) = ap₂ (λ (n : ℕ) (o : Play). pick (eqb n 0) o (done n d)) (refusal_same x) (play_same x)
-  by_same Bad = refl
+  by_same (Some x) = ap₂ (λ (n : ℕ) (o : Play). pick (eqb n 0) o (done n d)) (refusal_same x) (play_same x)
+  by_same None = refl
 
   step_same : (r c : ℕ) → step_on B code r c d ≡ step_before B before r c d
   unfolding step_on step_before

@@ -5,7 +5,7 @@ use lib.IntN.{ℤ}
 use Rattle.rules.specs.declared.Settings.{Settings}
 use Rattle.rules.specs.Clicks.{Desk, Play, desk}
 use Rattle.rules.specs.Calls.{set_by, fresh_desk, SetUp, Outcome, setup_of, position_check}
-use Rattle.secrecy.specs.Demand.{seen_of, end_of, Twins}
+use Rattle.secrecy.specs.Demand.{end_of, Twins}
 use Rattle.secrecy.proofs.Rows.{Move, bared, row_of, fresh_alike, twins_alike}
 use Rattle.league.specs.Secret.{Call, play_of, seen_by, Row, none, next, Game, CodeDemand}
 use Rattle.league.proofs.Moves.{begins, start_checked, move, call_moves, call_keeps}

@@ -1,6 +1,7 @@
 -- What a call tells is what the boards show: the value of a step and of a pair is the open cells after less those before, refused too, that of a
 -- resolve the plain code, and a row of events has 0.
 -- A refused event leaves its desk as it was. Assumes nothing.
+use Rattle.std.specs.Prelude.{Option, Some, None}
 use mathlib.Core.Path.{◌≡◌, refl, sym, ap, ap₂, ◌∙◌}
 use mathlib.Core.Bool.{Bool, false≢true}
 use mathlib.Core.List.{List, [], ◌∷◌, map}
@@ -11,8 +12,6 @@ use lib.Dec.{leb, eqb}
 use borrow.Author.Tests.{leb-true, eqb-true, eq-eqb, ne_eqb}
 use Rattle.rules.specs.declared.Answer.{Answer}
 use Rattle.rules.specs.declared.Pointer.{Pointer}
-use Rattle.rules.specs.declared.Decoded.{Decoded}
-use Rattle.rules.specs.declared.Decoded.TheVariants.{At, Bad}
 use Rattle.rules.specs.Words.{pick}
 use Rattle.rules.specs.Clicks.{Desk, Play, done, on}
 use Rattle.rules.specs.Step.{pointer_of, refusal_at, play_at, step_at, step_by_of, step_on, plain_code, plain_on}
@@ -35,10 +34,10 @@ stays_at B code x d =
     pick_both (λ (o : Play). 20 ≤ o.answer → o.desk ≡ d) (eqb (refusal_at code x d) 0) (play_at B code x d) (done (refusal_at code x d) d)
     (λ _ h. let s = (play_answers B code x d).small in absurd (omega arith)) (λ _ _. refl)
 
-stays_by : (B : List ℤ) (code : ℕ) (p : Decoded) (d : Desk) → 20 ≤ (step_by_of B code p d).answer → (step_by_of B code p d).desk ≡ d
+stays_by : (B : List ℤ) (code : ℕ) (p : Option Pointer) (d : Desk) → 20 ≤ (step_by_of B code p d).answer → (step_by_of B code p d).desk ≡ d
 unfolding step_by_of
-stays_by B code (At x) d h = stays_at B code x d h
-stays_by B code Bad d h = refl
+stays_by B code (Some x) d h = stays_at B code x d h
+stays_by B code None d h = refl
 
 pub refused_stays : RefusedStays
 unfolding step_on

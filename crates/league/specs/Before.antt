@@ -1,9 +1,7 @@
 -- The game in document 01's words, before the league's rules 2: resolving and the settings of a book have a text of their own, every other name is
 -- that of rules. proofs/Rules.antt holds rules 1 and old books to it.
-use Rattle.std.specs.Prelude.{List, [], ◌∷◌, ◌++◌, ℕ, ltb, leb, eqb, ℤ}
+use Rattle.std.specs.Prelude.{List, [], ◌∷◌, ◌++◌, ℕ, ltb, leb, eqb, ℤ, Option, Some, None}
 use Rattle.rules.specs.declared.Pointer.{Pointer}
-use Rattle.rules.specs.declared.Decoded.{Decoded}
-use Rattle.rules.specs.declared.Decoded.TheVariants.{At, Bad}
 use Rattle.rules.specs.declared.Event.{Event}
 use Rattle.rules.specs.declared.Book.{Book}
 use Rattle.rules.specs.Words.{pick, unless}
@@ -32,9 +30,9 @@ play_before B code x d =
 unfoldable pub step_at_before : List ℤ → ℕ → Pointer → Desk → Play
 step_at_before B code x d = pick (eqb (refusal_before code x d) 0) (play_before B code x d) (done (refusal_before code x d) d)
 
-unfoldable pub step_by_before : List ℤ → ℕ → Decoded → Desk → Play
-step_by_before B code (At x) d = step_at_before B code x d
-step_by_before B code Bad d = done 30 d
+unfoldable pub step_by_before : List ℤ → ℕ → Option Pointer → Desk → Play
+step_by_before B code (Some x) d = step_at_before B code x d
+step_by_before B code None d = done 30 d
 
 unfoldable pub step_before : List ℤ → ℕ → ℕ → ℕ → Desk → Play
 step_before B code r c d = step_by_before B code (pointer_of d.position.settings r c) d

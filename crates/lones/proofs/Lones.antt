@@ -65,13 +65,6 @@ module _ (shown : List ℕ) (i : ℕ) where
   unfolding not_open_at
   not_open_on h = rw (lt-leb _ _ h)
 
--- an open cell is none that is not open
-pub left_open : {t : Bool} (u : Bool) {b : Bool} → b ≡ t → b ≡ false → false ≡ (t && u)
-left_open {t} u e d = rw (sym e ∙ d)
-
-pub left_lone : {t u : Bool} {a b : Bool} → b ≡ t → b ≡ true → a ≡ u → a ≡ (t && u)
-left_lone {t} {u} e d f = rw (sym e ∙ d) f
-
 -- ---- a chord's cells -----------------------------------------------------------------------------------------------------------------
 
 module _ (B : List ℤ) (R C : ℕ) where

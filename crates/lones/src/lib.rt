@@ -2,13 +2,17 @@
 // The contracts cite rules/specs/Board.antt and Judging.antt; specs/Counts.antt has what the counts ensure.
 #![tactic(auto)]
 
-ghost use Rattle.std.specs.Prelude.{◌≡◌, ◌&&◌, ◌*◌, ◌<◌, ◌≤◌};
-ghost use Rattle.rules.specs.Words.{bit, stack_of};
+ghost use Rattle.std.specs.Prelude.{◌≡◌, ◌&&◌, ◌*◌, ◌<◌, ◌≤◌, length};
+ghost use Rattle.rules.specs.Cells.{cell_list};
+ghost use Rattle.rules.specs.Words.{bit};
 ghost use Rattle.rules.specs.Grid.{cell_of};
 ghost use Rattle.rules.specs.Board.{face_at, lone_at};
 ghost use Rattle.rules.specs.Judging.{not_open_at};
 ghost use Rattle.cells.specs.Ground.{Mined, Below};
+ghost use Rattle.cells.specs.Stack.{stacked};
 ghost use Rattle.lones.specs.Counts.{Lone, LoneRow};
+
+use rules::Cells;
 
 // A number has no 0 neighbour; that the cell is one is known. Small enough for the compiler to take it into the loop over a row of events.
 pub fn lone_number(mines: &[i8], rows: usize, columns: usize, row: usize, column: usize) -> bool
@@ -46,29 +50,18 @@ pub fn cell_is_bbbv(mines: &[i8], rows: usize, columns: usize, cell: usize) -> b
     lone_at(mines, rows, columns, cell / columns, cell % columns)
 }
 
-fn one(b: bool) -> usize
-    ensures { result ≡ bit b }
-{
-    if b {
-        return 1;
-    }
-    0
-}
-
 // The numbers without a 0 neighbour among a chord's cells.
-pub fn lone_cells(mines: &[i8], rows: usize, columns: usize, cells: rules::Cells) -> usize
+pub fn lone_cells(mines: &[i8], rows: usize, columns: usize, cells: Cells) -> usize
     requires mined { Mined mines.now rows columns }
-    requires n_bound { cells.n ≤ 8 }
-    requires below { Below (rows * columns) (stack_of cells.at cells.n) }
-    ensures { Lone mines.now rows columns (stack_of cells.at cells.n) result }
+    requires below { Below (rows * columns) (cell_list cells) }
+    ensures { Lone mines.now rows columns (stacked (cell_list cells)) result }
 {
-    let at = cells.at;
-    let n = cells.n;
     let mut sum = 0;
-    for i in 0..n {
-        let q = cells::index(at[i]);
+    let given = cells.as_slice();
+    for cell in given {
+        let q = usize::from(*cell);
         let lone = cell_is_bbbv(mines, rows, columns, q);
-        sum += one(lone);
+        sum += usize::from(lone);
     }
     sum
 }
@@ -77,11 +70,7 @@ pub fn lone_cells(mines: &[i8], rows: usize, columns: usize, cells: rules::Cells
 pub fn not_open(shown: &[u8], cell: usize) -> bool
     ensures { result ≡ not_open_at shown.now cell }
 {
-    if shown.len() <= cell {
-        return true;
-    }
-    let v = shown[cell];
-    8 < v
+    shown.len() <= cell || 8 < shown[cell]
 }
 
 // A number without a 0 neighbour that is not open.
@@ -97,10 +86,7 @@ fn lone_left(
     requires row_lt_rows { (row < rows) × (column < columns) }
     ensures { result ≡ (not_open_at shown.now (cell_of columns row column) && lone_at mines.now rows columns (cell_of columns row column)) }
 {
-    if !not_open(shown, row * columns + column) {
-        return false;
-    }
-    lone_at(mines, rows, columns, row, column)
+    not_open(shown, row * columns + column) && lone_at(mines, rows, columns, row, column)
 }
 
 // The numbers of a row without a 0 neighbour, those not open.
@@ -112,7 +98,7 @@ fn lone_row(mines: &[i8], shown: &[u8], rows: usize, columns: usize, row: usize)
     let mut sum = 0;
     for column in 0..columns {
         let lone = lone_left(mines, shown, rows, columns, row, column);
-        sum += one(lone);
+        sum += usize::from(lone);
     }
     sum
 }

@@ -1,15 +1,18 @@
 -- One equation for each way through the marking of a mine and the taking back of a flag.
-use mathlib.Core.Path.{◌≡◌, sym, ◌∙◌}
-use mathlib.Core.Bool.{Bool, true, false}
+use mathlib.Core.Path.{◌≡◌, ap, sym, ◌∙◌}
+use mathlib.Core.Bool.{Bool, not}
 use mathlib.Core.List.{List}
 use Prim.Native.Nat.{ℕ}
 use native.Mathlib.Omega.{arith}
 use borrow.Author.Tests.{eq-eqb, ne_eqb}
 use lib.ListN.{get_or, set}
 use lib.IntN.{ℤ}
+use mir.Val.{bool_byte}
+use Rattle.rules.specs.Words.{bit}
 use Rattle.rules.specs.Board.{face_at}
 use Rattle.rules.specs.Lent.{bit_at, with_bit}
 use Rattle.rules.specs.Clicks.{Desk, done, showing, bits_with, adds_rce, unflagged, take_back}
+use Rattle.cells.proofs.Words.{byte_bit}
 use Rattle.marking.specs.Mark.{Marked}
 
 module _ (B : List ℤ) (bits : List ℕ) (i f : ℕ) (face : f ≡ face_at B i) where
@@ -18,13 +21,12 @@ module _ (B : List ℤ) (bits : List ℕ) (i f : ℕ) (face : f ≡ face_at B i)
   marked_safe n = let e = ne_eqb (face_at B i) 15 (λ h. n (face ∙ h)) in record { adds = simp e; one = omega arith; after = simp e }
 
   module _ (mine : f ≡ 15) (had : Bool) (test : had ≡ bit_at bits i) (bits' : List ℕ) (stored : bits' ≡ with_bit bits i) where
-    pub marked_had : had ≡ true → Marked B bits i 0 bits'
+    pub marked_mine : {n : ℕ} → n ≡ bool_byte (not had) → Marked B bits i n bits'
     unfolding adds_rce bits_with
-    marked_had h = let e = eq-eqb (face_at B i) 15 (sym face ∙ mine) in record { adds = simp (e, sym test ∙ h); one = omega arith; after = simp e stored }
-
-    pub marked_new : had ≡ false → Marked B bits i 1 bits'
-    unfolding adds_rce bits_with
-    marked_new h = let e = eq-eqb (face_at B i) 15 (sym face ∙ mine) in record { adds = simp (e, sym test ∙ h); one = omega arith; after = simp e stored }
+    marked_mine h =
+        let e = eq-eqb (face_at B i) 15 (sym face ∙ mine) in
+        let b = byte_bit (not had) h in
+        record { adds = b.0 ∙ ap (λ (x : Bool). bit (not x)) test ∙ simp e; one = b.1; after = simp e stored }
 
 module _ (i : ℕ) (d : Desk) where
   pub back_flag : get_or d.shown i 0 ≡ 11 → take_back i d ≡ done 1 (unflagged i d)

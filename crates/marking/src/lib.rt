@@ -25,10 +25,7 @@ pub fn mark_mine(mines: &[i8], bits: &mut [u8], cell: usize) -> u32
     }
     let had = bits::test_bit(bits, cell);
     bits::set_bit(bits, cell);
-    if had {
-        return 0;
-    }
-    1
+    u32::from(!had)
 }
 
 pub fn add_right(p: Position) -> Position

@@ -5,7 +5,6 @@ use Prim.Native.Nat.{ℕ, ◌≤◌}
 use native.Mathlib.Omega.{arith}
 use borrow.Author.Tests.{ne_eqb, le-leb}
 use lib.Dec.{leb}
-use Rattle.rules.specs.Words.{pick}
 use Rattle.rules.specs.declared.Pointer.{Pointer}
 use Rattle.rules.specs.Clicks.{Desk}
 use Rattle.rules.specs.Mouse.{resolved, flipped}

@@ -1,4 +1,5 @@
 -- Every event that is not forbidden keeps the invariant, in every game state. Assumes nothing.
+use Rattle.std.specs.Prelude.{Option, Some, None}
 use mathlib.Core.Path.{◌≡◌, refl, sym, ap, ◌∙◌, subst⁻¹}
 use mathlib.Core.Bool.{Bool, true, false, ◌&&◌, ◌||◌, true≢false}
 use mathlib.Core.List.{List}
@@ -10,8 +11,6 @@ use lib.IntN.{ℤ}
 use Rattle.rules.specs.declared.Settings.{Settings}
 use Rattle.rules.specs.declared.Pointer.{Pointer}
 use Rattle.rules.specs.declared.Pointer.TheVariants.{Cell, Off}
-use Rattle.rules.specs.declared.Decoded.{Decoded}
-use Rattle.rules.specs.declared.Decoded.TheVariants.{At, Bad}
 use Rattle.rules.specs.declared.Event.{Event}
 use Rattle.rules.specs.declared.Event.TheVariants.{Lc, Lr, Rc, Rr, Mv, Mc, Mr, Cc, Pf, Unknown}
 use Rattle.rules.specs.declared.GameState.{GameState}
@@ -271,11 +270,11 @@ module _ (B : List ℤ) (v : Valued B) where
   step_at_spotless code x d f i h =
       pick_both SpotlessO (eqb (refusal_at code x d) 0) (play_at B code x d) (done (refusal_at code x d) d) (λ _. play_at_spotless code x d f i h) (λ _. h)
 
-  step_by_spotless : (code : ℕ) (p : Decoded) (d : Desk) → forbidden code ≡ false → ((x : Pointer) → p ≡ At x → Inside d.position.settings x) → Spotless d
+  step_by_spotless : (code : ℕ) (p : Option Pointer) (d : Desk) → forbidden code ≡ false → ((x : Pointer) → p ≡ Some x → Inside d.position.settings x) → Spotless d
       → SpotlessO (step_by_of B code p d)
   unfolding step_by_of
-  step_by_spotless code (At x) d f i h = step_at_spotless code x d f (i x refl) h
-  step_by_spotless code Bad d f i h = h
+  step_by_spotless code (Some x) d f i h = step_at_spotless code x d f (i x refl) h
+  step_by_spotless code None d f i h = h
 
   -- THE step of the full game, on a code that is not forbidden
   pub step_spotless : (code r c : ℕ) (d : Desk) → forbidden code ≡ false → Spotless d → SpotlessO (step_on B code r c d)

@@ -1,5 +1,6 @@
 -- An event that is not forbidden does what it does in the full game; a forbidden one is refused by 30, 31 or 34. So what the full game's step keeps,
 -- the class's keeps. Assumes nothing.
+use Rattle.std.specs.Prelude.{Option, Some, None}
 use mathlib.Core.Path.{◌≡◌, refl, subst⁻¹}
 use mathlib.Core.Bool.{Bool, true, false}
 use mathlib.Core.List.{List}
@@ -7,8 +8,6 @@ use Prim.Native.Nat.{ℕ}
 use lib.Dec.{ltb, eqb}
 use lib.IntN.{ℤ}
 use Rattle.rules.specs.declared.Pointer.{Pointer}
-use Rattle.rules.specs.declared.Decoded.{Decoded}
-use Rattle.rules.specs.declared.Decoded.TheVariants.{At, Bad}
 use Rattle.rules.specs.Words.{pick, unless}
 use Rattle.rules.specs.Clicks.{Desk, Play, done}
 use Rattle.rules.specs.Step.{pointer_of, refusal_at, play_at, step_at, step_by_of, step_on}
@@ -19,10 +18,10 @@ refusal_same : (code : ℕ) (x : Pointer) (d : Desk) → forbidden code ≡ fals
 unfolding class_refusal_at refusal_at
 refusal_same code x d e = rw e
 
-step_by_same : (B : List ℤ) (code : ℕ) (p : Decoded) (d : Desk) → forbidden code ≡ false → class_step_by B code p d ≡ step_by_of B code p d
+step_by_same : (B : List ℤ) (code : ℕ) (p : Option Pointer) (d : Desk) → forbidden code ≡ false → class_step_by B code p d ≡ step_by_of B code p d
 unfolding class_step_by step_by_of class_step_at step_at
-step_by_same B code (At x) d e = rw (refusal_same code x d e)
-step_by_same B code Bad d e = refl
+step_by_same B code (Some x) d e = rw (refusal_same code x d e)
+step_by_same B code None d e = refl
 
 -- THEOREM: class_same
 pub class_same : ClassSame
@@ -34,11 +33,11 @@ refused_at_lem : (B : List ℤ) (code : ℕ) (x : Pointer) (d : Desk) (few : Boo
 refused_at_lem B code x d true = refl
 refused_at_lem B code x d false = refl
 
-step_by_forbids : (B : List ℤ) (code : ℕ) (p : Decoded) (d : Desk) → forbidden code ≡ true
+step_by_forbids : (B : List ℤ) (code : ℕ) (p : Option Pointer) (d : Desk) → forbidden code ≡ true
     → class_step_by B code p d ≡ done (forbids (ltb d.position.events 65535) p) d
 unfolding class_step_by class_step_at class_refusal_at
-step_by_forbids B code (At x) d e = rw e (refused_at_lem B code x d (ltb d.position.events 65535))
-step_by_forbids B code Bad d e = refl
+step_by_forbids B code (Some x) d e = rw e (refused_at_lem B code x d (ltb d.position.events 65535))
+step_by_forbids B code None d e = refl
 
 -- THEOREM: 34 in its place, in every game state
 pub class_forbids : ClassForbids

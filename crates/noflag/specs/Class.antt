@@ -1,9 +1,8 @@
 -- What the class is to the full game, and what its games keep: no flag was ever there, and nothing of one is counted.
 -- proofs/Same.antt, proofs/Clean.antt and proofs/Lawful.antt prove it.
-use Rattle.std.specs.Prelude.{◌≡◌, Bool, true, false, List, [], ◌∷◌, ◌⊎◌, ℕ, ◌<◌, ltb, length, get_or, ℤ}
+use Rattle.std.specs.Prelude.{◌≡◌, Bool, true, false, List, [], ◌∷◌, ◌⊎◌, ℕ, ◌<◌, ltb, length, get_or, ℤ, Option, Some, None}
+use Rattle.rules.specs.declared.Pointer.{Pointer}
 use Rattle.rules.specs.declared.Settings.{Settings}
-use Rattle.rules.specs.declared.Decoded.{Decoded}
-use Rattle.rules.specs.declared.Decoded.TheVariants.{At, Bad}
 use Rattle.rules.specs.declared.MouseState.{MouseState}
 use Rattle.rules.specs.declared.MouseState.TheVariants.{UpUp, DownUp}
 use Rattle.rules.specs.Words.{unless}
@@ -24,9 +23,9 @@ abbrev pub ClassSame : Type 0
 ClassSame = (B : List ℤ) (code r c : ℕ) (d : Desk) → forbidden code ≡ false → class_step_on B code r c d ≡ step_on B code r c d
 
 -- what a forbidden one answers: 30, else 31, else 34, by the pointer and the events alone
-abbrev pub forbids : Bool → Decoded → ℕ
-forbids few (At x) = unless 31 few 34
-forbids few Bad = 30
+abbrev pub forbids : Bool → Option Pointer → ℕ
+forbids few (Some x) = unless 31 few 34
+forbids few None = 30
 
 -- and it leaves the desk, in every game state
 abbrev pub ClassForbids : Type 0

@@ -1,4 +1,5 @@
 -- 25 in its place: a chain of the class is the board's, but for the mode. And what a forbidden event is refused with. Assumes nothing.
+use Rattle.std.specs.Prelude.{Option, Some, None}
 use mathlib.Core.Path.{◌≡◌, refl, sym, ap, ap₂, ◌∙◌, subst⁻¹}
 use mathlib.Core.Bool.{Bool, true, false, ◌&&◌, true≢false}
 use mathlib.Core.List.{List}
@@ -10,8 +11,6 @@ use lib.IntN.{ℤ}
 use Rattle.rules.specs.declared.Settings.{Settings}
 use Rattle.rules.specs.declared.Position.{Position}
 use Rattle.rules.specs.declared.Pointer.{Pointer}
-use Rattle.rules.specs.declared.Decoded.{Decoded}
-use Rattle.rules.specs.declared.Decoded.TheVariants.{At, Bad}
 use Rattle.rules.specs.declared.Answer.{Answer}
 use Rattle.rules.specs.Words.{pick, unless}
 use Rattle.rules.specs.States.{fresh_of}
@@ -25,7 +24,7 @@ use Rattle.cells.proofs.Words.{pick_both}
 use Rattle.boards.specs.Faults.{Placeable}
 use Rattle.rules.specs.Noflag.{class_settings_refusal, class_setup_refusal, class_setup_of, class_lent_refusal}
 use Rattle.noflag.specs.Class.{forbids}
-use Rattle.noflag_board.specs.Parts.{moded}
+use Rattle.noflag_board.specs.Parts.{moded, other_moded}
 
 -- ---- which numbers come before 25 --------------------------------------------------------------------------------------------------------
 
@@ -102,13 +101,16 @@ lent_moded B d work =
 -- ---- its cell ----------------------------------------------------------------------------------------------------------------------------
 
 -- 25 has no place, so the search finds what it asks where it did
-pub moded_placeable : (R C : ℕ) (B : List ℤ) (mode n k : ℕ) → k ≡ moded mode n → Placeable R C B n → Placeable R C B k
-moded_placeable R C B mode n k e h =
-    subst⁻¹ (Placeable R C B) e
-    (pick_both (Placeable R C B) (eqb mode 0) n _ (λ _. h) (λ _. pick_both (Placeable R C B) (leb 20 n && leb n 24) n 25 (λ _. h) (λ _. none)))
+pub other_placeable : (R C : ℕ) (B : List ℤ) (n k : ℕ) → k ≡ other_moded n → Placeable R C B n → Placeable R C B k
+other_placeable R C B n k e h = subst⁻¹ (Placeable R C B) e (pick_both (Placeable R C B) (leb 20 n && leb n 24) n 25 (λ _. h) (λ _. none))
   where
     none : Placeable R C B 25
     none = record { sized = λ (q : ◌≡◌ {A = ℕ} 25 22). absurd (omega arith); valued = λ (q : ◌≡◌ {A = ℕ} 25 23). absurd (omega arith) }
+
+pub moded_placeable : (R C : ℕ) (B : List ℤ) (mode n k : ℕ) → k ≡ moded mode n → Placeable R C B n → Placeable R C B k
+moded_placeable R C B mode n k e h =
+    subst⁻¹ (Placeable R C B) e
+    (pick_both (Placeable R C B) (eqb mode 0) n _ (λ _. h) (λ _. other_placeable R C B n (other_moded n) refl h))
 
 -- ---- setup in another mode -----------------------------------------------------------------------------------------------------------------
 
@@ -122,22 +124,23 @@ moded_refuses mode n m = go (eqb mode 0) (leb 20 n && leb n 24) (ne_eqb mode 0 m
     go false false e f z = omega arith
 
 pub setup_other : (s : Settings) (B : List ℤ) (shown bits : List ℕ) (found n : ℕ) (p : Position) (r : Answer) → (s.mode ≡ 0 → ⊥)
-    → found ≡ setup_refusal s B shown bits → n ≡ moded s.mode found → p ≡ fresh_of s 0 → r ≡ refuses B p n
+    → found ≡ setup_refusal s B shown bits → n ≡ other_moded found → p ≡ fresh_of s 0 → r ≡ refuses B p n
     → set_up r shown bits ≡ class_setup_of s B shown bits
 unfolding class_setup_of setup_by
 setup_other s B shown bits found n p r m ef en ep er =
-    let k : n ≡ class_setup_refusal s B shown bits = en ∙ (ap (moded s.mode) ef ∙ sym (setup_moded s B shown bits)) in
-    let z : class_setup_refusal s B shown bits ≡ 0 → ⊥ = λ q. moded_refuses s.mode found m (sym en ∙ (k ∙ q)) in
+    let em : n ≡ moded s.mode found = en ∙ sym (ap (λ (t : Bool). pick t found (other_moded found)) (ne_eqb s.mode 0 m)) in
+    let k : n ≡ class_setup_refusal s B shown bits = em ∙ (ap (moded s.mode) ef ∙ sym (setup_moded s B shown bits)) in
+    let z : class_setup_refusal s B shown bits ≡ 0 → ⊥ = λ q. moded_refuses s.mode found m (sym em ∙ (k ∙ q)) in
     ap (λ (a : Answer). set_up a shown bits) (er ∙ ap₂ (λ (q : Position) (m : ℕ). refuses B q m) ep k)
     ∙ simp (ne_eqb (class_setup_refusal s B shown bits) 0 z)
 
 -- ---- a forbidden event -------------------------------------------------------------------------------------------------------------------
 
-module _ (w w' : Decoded) (e : w' ≡ w) where
-  pub forbids_off : (few : Bool) → w' ≡ Bad → 30 ≡ forbids few w
+module _ (w w' : Option Pointer) (e : w' ≡ w) where
+  pub forbids_off : (few : Bool) → w' ≡ None → 30 ≡ forbids few w
   forbids_off few b = sym (ap (forbids few) (sym e ∙ b))
 
-  module _ (n : ℕ) (x : Pointer) (a : w' ≡ At x) where
+  module _ (n : ℕ) (x : Pointer) (a : w' ≡ Some x) where
     pub forbids_full : 65535 ≤ n → 31 ≡ forbids (ltb n 65535) w
     forbids_full h = sym (ap (forbids (ltb n 65535)) (sym e ∙ a) ∙ ap (λ (t : Bool). unless 31 t 34) (le-ltb n 65535 h))
 

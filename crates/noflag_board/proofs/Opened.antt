@@ -1,6 +1,6 @@
 -- What a step of the class opened: its value plus the open cells before is the open cells after where it is accepted, and 0 where it is refused.
 -- Assumes nothing.
-use mathlib.Core.Path.{◌≡◌, refl, sym, ◌∙◌, subst⁻¹}
+use mathlib.Core.Path.{refl, sym, ◌∙◌, subst⁻¹}
 use mathlib.Core.List.{List}
 use Prim.Native.Nat.{ℕ, ◌≤◌}
 use native.Mathlib.Omega.{arith}

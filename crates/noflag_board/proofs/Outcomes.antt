@@ -1,5 +1,6 @@
 -- One outcome for every input: any two outcomes that a call's promise allows are equal. A refusal gives all back, with its number and its place. And 25
 -- and 34 stand in their places of the order. Assumes nothing.
+use Rattle.std.specs.Prelude.{Option, Some, None}
 use mathlib.Core.Path.{◌≡◌, refl, ap, ◌∙◌, subst⁻¹}
 use mathlib.Core.Bool.{Bool, true, false, not, ◌&&◌}
 use mathlib.Core.List.{List, [], ◌∷◌, ◌++◌}
@@ -13,8 +14,6 @@ use Rattle.rules.specs.declared.Settings.{Settings}
 use Rattle.rules.specs.declared.Answer.{Answer}
 use Rattle.rules.specs.declared.Book.{Book}
 use Rattle.rules.specs.declared.Pointer.{Pointer}
-use Rattle.rules.specs.declared.Decoded.{Decoded}
-use Rattle.rules.specs.declared.Decoded.TheVariants.{At, Bad}
 use Rattle.rules.specs.declared.GameState.{GameState}
 use Rattle.rules.specs.declared.GameState.TheVariants.{Ready, Playing, Win, Loss, PreFlaging}
 use Rattle.rules.specs.declared.Event.{Event}
@@ -79,10 +78,10 @@ pub step_refused : (B : List ℤ) (code r c : ℕ) (d : Desk) (work : List ℕ) 
 unfolding class_step_of
 step_refused B code r c d work h = simp (ne_eqb _ _ h)
 
-forbids_past : (few : Bool) (w : Decoded) → 30 ≤ forbids few w
-forbids_past few Bad = omega arith
-forbids_past true (At x) = omega arith
-forbids_past false (At x) = omega arith
+forbids_past : (few : Bool) (w : Option Pointer) → 30 ≤ forbids few w
+forbids_past few None = omega arith
+forbids_past true (Some x) = omega arith
+forbids_past false (Some x) = omega arith
 
 module _ (B : List ℤ) (code r c : ℕ) (d : Desk) where
   -- what holds of a play of the full game, and of what a forbidden event is answered, holds of the class's play
@@ -170,12 +169,12 @@ event_rows_lem code x d =
     by_game_lem PreFlaging e = refl
 
 module _ (B : List ℤ) (code r c : ℕ) (d : Desk) where
-  pub step_off : pointer_of d.position.settings r c ≡ Bad → class_step_on B code r c d ≡ done 30 d
+  pub step_off : pointer_of d.position.settings r c ≡ None → class_step_on B code r c d ≡ done 30 d
   unfolding class_step_on class_step_by
-  step_off e = ap (λ (w : Decoded). class_step_by B code w d) e
+  step_off e = ap (λ (w : Option Pointer). class_step_by B code w d) e
 
-  pub step_at_lem : (x : Pointer) → pointer_of d.position.settings r c ≡ At x
+  pub step_at_lem : (x : Pointer) → pointer_of d.position.settings r c ≡ Some x
       → class_step_on B code r c d ≡ pick (eqb (first (class_event_rows code x d)) 0) (play_at B code x d) (done (first (class_event_rows code x d)) d)
   unfolding class_step_on class_step_by class_step_at
   step_at_lem x e =
-      ap (λ (w : Decoded). class_step_by B code w d) e ∙ ap (λ (n : ℕ). pick (eqb n 0) (play_at B code x d) (done n d)) (event_rows_lem code x d)
+      ap (λ (w : Option Pointer). class_step_by B code w d) e ∙ ap (λ (n : ℕ). pick (eqb n 0) (play_at B code x d) (done n d)) (event_rows_lem code x d)

@@ -1,5 +1,7 @@
 -- One event of the class as a call: what is not played is refused, and what is played is the board's own step on the code resolved, with the position
 -- that came in given back where that refuses. Assumes nothing.
+use Rattle.std.specs.Prelude.{Option, Some, None}
+use Rattle.rules.specs.declared.Pointer.{Pointer}
 use mathlib.Core.Path.{◌≡◌, refl, sym, ap, ap₂, ◌∙◌}
 use mathlib.Core.Bool.{Bool, true, false, not, ◌&&◌, ◌||◌, true≢false, false≢true}
 use mathlib.Core.List.{List}
@@ -12,8 +14,6 @@ use Rattle.rules.specs.declared.Position.{Position}
 use Rattle.rules.specs.declared.Settings.{Settings}
 use Rattle.rules.specs.declared.Answer.{Answer}
 use Rattle.rules.specs.declared.Place.TheVariants.{Nowhere}
-use Rattle.rules.specs.declared.Decoded.{Decoded}
-use Rattle.rules.specs.declared.Decoded.TheVariants.{At, Bad}
 use Rattle.rules.specs.declared.GameState.{GameState}
 use Rattle.rules.specs.declared.GameState.TheVariants.{Ready, Playing, Win, Loss, PreFlaging}
 use Rattle.rules.specs.Words.{pick, unless}
@@ -127,9 +127,9 @@ resolved_alike : (B : List ℤ) (code r c : ℕ) (d : Desk) → Alike (plain_on 
 unfolding step_on step_by_of
 resolved_alike B code r c d = go (pointer_of d.position.settings r c)
   where
-    go : (w : Decoded) → Alike (step_by_of B (plain_code (plain_at_of code d)) w (flipped_at code d)) (step_by_of B code w d)
-    go Bad = both 30 (omega arith) refl refl
-    go (At x) = by (ltb d.position.events 65535) refl
+    go : (w : Option Pointer) → Alike (step_by_of B (plain_code (plain_at_of code d)) w (flipped_at code d)) (step_by_of B code w d)
+    go None = both 30 (omega arith) refl refl
+    go (Some x) = by (ltb d.position.events 65535) refl
       where
         by : (t : Bool) → ltb d.position.events 65535 ≡ t → Alike (step_at B (plain_code (plain_at_of code d)) x (flipped_at code d)) (step_at B code x d)
         by true room = same (pair_at B code x d room)
@@ -247,10 +247,10 @@ module _ (p : Position) (code row column : ℕ) (B : List ℤ) (shown bits work 
       k : ℕ
       k = forbids (ltb p.events 65535) (pointer_of p.settings row column)
 
-      forbids_far : (few : Bool) (w : Decoded) → 20 ≤ forbids few w
-      forbids_far few Bad = omega arith
-      forbids_far true (At x) = omega arith
-      forbids_far false (At x) = omega arith
+      forbids_far : (few : Bool) (w : Option Pointer) → 20 ≤ forbids few w
+      forbids_far few None = omega arith
+      forbids_far true (Some x) = omega arith
+      forbids_far false (Some x) = omega arith
 
       mode : eqb p.settings.mode 0 ≡ true
       mode = eq-eqb _ _ (lent_zero B here work (eqb-true _ _ e))

@@ -11,9 +11,13 @@ use Rattle.rules.specs.Book.{byte_at, mine_count_at}
 use Rattle.rules.specs.Noflag.{class_lent_refusal}
 use Rattle.noflag.specs.Class.{forbids}
 
+-- the refusal in another mode than 0, by the full game's refusal n: 20 to 24 come before 25
+abbrev pub other_moded : ℕ → ℕ
+other_moded n = pick (leb 20 n && leb n 24) n 25
+
 -- the full game's refusal n, with 25 in its place where the mode is not 0
 abbrev pub moded : ℕ → ℕ → ℕ
-moded mode n = pick (eqb mode 0) n (pick (leb 20 n && leb n 24) n 25)
+moded mode n = pick (eqb mode 0) n (other_moded n)
 
 -- what is answered for an event that is not played: 20 to 264, or 30, 31, 34
 abbrev pub unplayed_of : List ℤ → ℕ → ℕ → Desk → List ℕ → Answer

@@ -4,16 +4,16 @@
 #![tactic(auto)]
 
 ghost use Rattle.std.specs.Prelude.{◌≡◌, ltb};
+ghost use Rattle.rules.specs.Refusals.{refusal_number, found_number};
 ghost use Rattle.rules.specs.Clicks.{desk};
 ghost use Rattle.rules.specs.Step.{pointer_of};
-ghost use Rattle.rules.specs.Book.{refused_book};
 ghost use Rattle.rules.specs.Noflag.{forbidden, class_book_of, ClassSetupIs, ClassStepIs};
 ghost use Rattle.noflag.specs.Class.{forbids};
 ghost use Rattle.book.specs.Laid.{Counted};
-ghost use Rattle.noflag_board.specs.Parts.{moded, unplayed_of, given_back, mode_wrong, other_mode};
+ghost use Rattle.noflag_board.specs.Parts.{moded, other_moded, unplayed_of, given_back, mode_wrong, other_mode};
 
 pub use calls::reset;
-use rules::{Answer, Book, Decoded, Position, Settings};
+use rules::{Answer, Book, Position, Refusal, Settings};
 
 // ---- what the class refuses --------------------------------------------------------------------------------------------------------------
 
@@ -25,30 +25,40 @@ pub fn forbidden(code: u8) -> bool
 }
 
 // What a forbidden event is refused with: 30, then 31, then 34.
-pub fn forbids(p: Position, row: u8, column: u8) -> u16
-    ensures { result ≡ forbids (ltb p.events 65535) (pointer_of p.settings row column) }
+pub fn forbids(p: Position, row: u8, column: u8) -> Refusal
+    ensures { refusal_number result ≡ forbids (ltb p.events 65535) (pointer_of p.settings row column) }
 {
-    let s = p.settings;
-    let Decoded::At(_) = mouse::decode(s, row, column) else {
-        return 30;
+    let Some(_) = mouse::decode(p.settings, row, column) else {
+        return Refusal::Pointer;
     };
     if faults::is_full(p) {
-        return 31;
+        return Refusal::Full;
     }
-    34
+    Refusal::Forbidden
 }
 
-// The board's refusal n with 25 unless the mode is 0, in its place: 20 to 24 come before it, all else after.
-fn moded(mode: u8, n: u16) -> u16
-    ensures { result ≡ moded mode n }
+// The refusal in another mode than 0, by what the board has found: 20 to 24 come before 25, all else after.
+fn other_moded(found: Result<(), Refusal>) -> Refusal
+    ensures { refusal_number result ≡ other_moded (found_number found) }
+{
+    match found {
+        Err(Refusal::Size) => Refusal::Size,
+        Err(Refusal::Length) => Refusal::Length,
+        Err(Refusal::Value) => Refusal::Value,
+        Err(Refusal::Number) => Refusal::Number,
+        Err(Refusal::AllMines) => Refusal::AllMines,
+        _ => Refusal::Mode,
+    }
+}
+
+// What the board has found, with 25 in its place unless the mode is 0.
+fn moded(mode: u8, found: Result<(), Refusal>) -> Result<(), Refusal>
+    ensures { found_number result ≡ moded mode (found_number found) }
 {
     if mode == 0 {
-        return n;
+        return found;
     }
-    if (20 <= n) & (n <= 24) {
-        return n;
-    }
-    25
+    Err(other_moded(found))
 }
 
 // ---- setup -------------------------------------------------------------------------------------------------------------------------------
@@ -61,9 +71,9 @@ pub fn setup(settings: Settings, mines: &[i8], shown: &mut [u8], bits: &mut [u8]
         return calls::setup(settings, mines, &mut *shown, &mut *bits);
     }
     let found = refusals::setup_refusal(settings, mines, &*shown, &*bits);
-    let n = moded(settings.mode, found);
+    let refusal = other_moded(found);
     let p = rules::fresh(settings, 0);
-    refusals::refuse(n, p, mines)
+    refusals::refuse(refusal, p, mines)
 }
 
 // ---- step --------------------------------------------------------------------------------------------------------------------------------
@@ -81,12 +91,11 @@ fn unplayed(
     ensures { result ≡ unplayed_of mines.now row column (desk p shown.now bits.now) work.now }
 {
     let found = refusals::lent_refusal(p, mines, shown, bits, work);
-    let n = moded(p.settings.mode, found);
-    if n != 0 {
-        return refusals::refuse(n, p, mines);
+    if let Err(refusal) = moded(p.settings.mode, found) {
+        return refusals::refuse(refusal, p, mines);
     }
-    let k = forbids(p, row, column);
-    calls::answer(k, p, 0)
+    let barred = forbids(p, row, column);
+    calls::refused(barred, p)
 }
 
 // A refusal gives back the position that came in, whatever it was tested on.
@@ -94,13 +103,7 @@ fn given_back(a: Answer, p: Position) -> Answer
     ensures { result ≡ given_back a p }
 {
     if 20 <= a.number {
-        let place = a.place;
-        return Answer {
-            number: a.number,
-            place,
-            position: p,
-            value: a.value,
-        };
+        return Answer { position: p, ..a };
     }
     a
 }
@@ -166,33 +169,11 @@ fn other_mode(s: &[u8]) -> bool
     if !((count == 4) | (count == 5)) {
         return false;
     }
-    let end = 1 + cells::wide(count);
+    let end = 1 + usize::from(count);
     if s.len() < end {
         return false;
     }
     mode_wrong(s)
-}
-
-// 25 at 3, and no book.
-fn refused_mode() -> Book
-    ensures { result ≡ refused_book 25 3 }
-{
-    let settings = Settings {
-        rows: 0,
-        columns: 0,
-        mode: 0,
-        question: false,
-        rules: 0,
-    };
-    Book {
-        number: 25,
-        place: 3,
-        settings,
-        mines_at: 0,
-        mines: 0,
-        events_at: 0,
-        events: 0,
-    }
 }
 
 // What a byte string says as a book of the class, or its first fault with the byte place: 25 at 3 unless the mode is 0, and all else as the board's
@@ -203,7 +184,7 @@ pub fn read_book(s: &[u8]) -> Book
     let other = other_mode(s);
     let b = book::read_book(s);
     if other {
-        return refused_mode();
+        return book::refuse(Refusal::Mode, 3);
     }
     b
 }

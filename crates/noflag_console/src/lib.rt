@@ -7,6 +7,7 @@ ghost use Rattle.console.specs.Promises.{ResetIs};
 ghost use Rattle.noflag_console.specs.Promises.{SetupIs, StepIs, ReadBookIs};
 
 use flats::{FlatAnswer, FlatBook, FlatPosition};
+use rules::Position;
 
 // Setup: 20 to 24, 25 unless the mode is 0, 45. Of the question byte it asks only whether it is 0.
 #[unsafe(no_mangle)]
@@ -24,7 +25,7 @@ pub extern "C" fn lm_noflag_setup(
 {
     let s = flats::settings_of(rows, columns, mode, question, rules);
     let a = noflag_board::setup(s, mines, shown, bits);
-    flats::flat_answer(a)
+    FlatAnswer::from(a)
 }
 
 // Reset is the board's: setup with the position's own settings.
@@ -37,7 +38,7 @@ pub extern "C" fn lm_noflag_reset(
 ) -> FlatAnswer
     ensures { ResetIs f mines.now shown.old bits.old result shown.new bits.new }
 {
-    let p = flats::position_in(f);
+    let p = Position::from(f);
     let a = noflag_board::reset(p, mines, shown, bits);
     reads::reset_for(f, a)
 }
@@ -67,5 +68,5 @@ pub extern "C" fn lm_noflag_read_book(s: &[u8]) -> FlatBook
     ensures { ReadBookIs s.now result }
 {
     let b = noflag_board::read_book(s);
-    flats::flat_book(b)
+    FlatBook::from(b)
 }

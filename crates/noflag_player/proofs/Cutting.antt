@@ -1,4 +1,6 @@
 -- The class's plays of a row are the full game's up to the first forbidden event, and then that one's; and so are their lines. Assumes nothing.
+use Rattle.std.specs.Prelude.{Option, Some, None}
+use Rattle.rules.specs.declared.Pointer.{Pointer}
 use mathlib.Core.Path.{◌≡◌, refl, sym, ap, ◌∙◌}
 use mathlib.Core.Bool.{Bool, true, false}
 use mathlib.Core.List.{List, [], ◌∷◌, ◌++◌, append_assoc}
@@ -8,8 +10,6 @@ use lib.Dec.{ltb, leb}
 use lib.ListN.{length, take, drop}
 use lib.Seq.{length-take-le}
 use lib.IntN.{ℤ}
-use Rattle.rules.specs.declared.Decoded.{Decoded}
-use Rattle.rules.specs.declared.Decoded.TheVariants.{At, Bad}
 use Rattle.rules.specs.Words.{pick}
 use Rattle.rules.specs.Clicks.{Desk, Play, done}
 use Rattle.rules.specs.Step.{pointer_of, step_on}
@@ -23,10 +23,10 @@ use Rattle.noflag_player.specs.Printing.{free_in, barred_at, barred_after}
 
 -- ---- the plays ---------------------------------------------------------------------------------------------------------------------------
 
-forbids_refuses : (few : Bool) (w : Decoded) → leb 20 (forbids few w) ≡ true
-forbids_refuses few Bad = refl
-forbids_refuses true (At x) = refl
-forbids_refuses false (At x) = refl
+forbids_refuses : (few : Bool) (w : Option Pointer) → leb 20 (forbids few w) ≡ true
+forbids_refuses few None = refl
+forbids_refuses true (Some x) = refl
+forbids_refuses false (Some x) = refl
 
 -- the full game's plays of a row up to its first forbidden event
 abbrev pub free_plays : List ℤ → List ℕ → Desk → List Play

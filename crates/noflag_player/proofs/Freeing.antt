@@ -43,11 +43,11 @@ module _ {events : List ℕ} {k : ℕ} (w : length events % 3 ≡ 0) (f : Freein
         let b = turn true e in
         record { free = omega arith; whole = f.whole; within = f.within }
 
-  pub freeing_end : length events ≤ k → Free events k
+  pub freeing_end : length events ≤ k → Free events (length events)
   unfolding free_in
   freeing_end h =
       let a = f.counts in
       let i = f.within in
       let e : k ≡ length events = omega arith in
       let b : free_in (drop k events) ≡ 0 = ap (λ (n : ℕ). free_in (drop n events)) e ∙ ap free_in (drop-length events) in
-      record { free = omega arith; whole = f.whole; within = f.within }
+      record { free = omega arith; whole = w; within = omega arith }

@@ -6,7 +6,7 @@ ghost use Rattle.std.specs.Prelude.{◌≡◌, ◌%◌, ◌≤◌, length, take,
 ghost use Rattle.std.specs.Io.KnownBytes.{Appends};
 ghost use Rattle.rules.specs.Noflag.{class_book_of, class_printout_of};
 ghost use Rattle.printing.specs.Boards.{Fit};
-ghost use Rattle.player.specs.Rooms.{text_fits, Enough};
+ghost use Rattle.player.specs.Rooms.{Enough};
 ghost use Rattle.noflag_player.specs.Printing.{Free, BarredFits, BarredPut, TextPut, WritePrintoutIs};
 ghost use Rattle.streams.specs.Streams.{AppendsPart};
 
@@ -20,14 +20,12 @@ fn free(events: &[u8]) -> usize
     requires { length events.now % 3 ≡ 0 }
     ensures { Free events.now result }
 {
-    let mut k = 0;
-    while k < events.len() {
+    for k in (0..events.len()).step_by(3) {
         if noflag_board::forbidden(events[k]) {
             return k;
         }
-        k += 3;
     }
-    k
+    events.len()
 }
 
 // The line of the forbidden event that stands at n, unless one before it was refused.
@@ -44,9 +42,9 @@ fn put_barred(t: Told, events: &[u8], n: usize, out: &mut [u8]) -> usize
     }
     let row = events[n + 1];
     let column = events[n + 2];
-    let answer = noflag_board::forbids(p, row, column);
+    let refusal = noflag_board::forbids(p, row, column);
     let o = Played {
-        answer,
+        answer: u16::from(refusal),
         position: p,
     };
     let number = (n / 3 + 1) as u16;
@@ -83,12 +81,12 @@ fn print_game(
         &mut *out,
         first,
     );
-    let q = t.position;
     let at = put_barred(t, events, n, &mut *out);
-    printing::finish(q, &*mines, &*shown, &mut *work, &mut *out, at)
+    printing::finish(t.position, &*mines, &*shown, &mut *work, &mut *out, at)
 }
 
-// The printout where enough is lent.
+// The printout where enough is lent. `player` has this function and those below for the full game: one over both would take the reading and the
+// printing as closures whose contracts name every lent list, and `player`'s also says what stands in the boards.
 fn print_lent(
     s: &[u8],
     mines: &mut [i8],
@@ -117,13 +115,6 @@ fn print_lent(
     )
 }
 
-// A place among the bytes has at most ten digits, and every printout has room.
-fn fits(bytes: usize, out: usize) -> bool
-    ensures { result ≡ text_fits bytes out }
-{
-    (bytes < 4294967296) & (172184 <= out)
-}
-
 // All that is ever handed to `streams`: a printout, whole.
 fn hand<W: Write>(to: &mut W, s: &[u8], text: &[u8]) -> io::Result<()>
     requires { text.now ≡ class_printout_of s.now }
@@ -141,7 +132,7 @@ pub fn write_printout<W: Write>(to: &mut W, s: &[u8], out: &mut [u8]) -> io::Res
     ensures err { OnErr result (WritePrintoutIs s.now out.old (length (class_printout_of s.now)) out.new) }
     ensures err_handed { OnErr result (AppendsPart (W.contents to.old) (W.contents to.new) (class_printout_of s.now)) }
 {
-    if !fits(s.len(), out.len()) {
+    if !player::text_fits(s.len(), out.len()) {
         return Ok(0);
     }
     let mut mines = player::mine_board();

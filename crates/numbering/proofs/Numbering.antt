@@ -37,12 +37,15 @@ use Rattle.rules.specs.Board.{
   numbered,
   numbering_refusal,
 }
+use Rattle.rules.specs.declared.Refusal.{Refusal}
+use Rattle.rules.specs.Refusals.{refusal_number}
 use Rattle.rules.specs.Calls.{Numbered, numbering_of}
 use Rattle.cells.specs.Ground.{Valued, Mined, face_is}
 use Rattle.cells.proofs.Words.{and_left, and_right, unless_passed, count_same, count_zero, every_at, every_all, in_order_length}
 use Rattle.cells.proofs.Grid.{around_same, around_le, size_limits, cell_lt, cell_back}
 use Rattle.boards.proofs.Tests.{refused_last, mine_face}
 use Rattle.numbering.specs.Numbering.{placed, number_one, number_first}
+use Rattle.cells.proofs.Refused.{never_0}
 use Rattle.numbering.proofs.Counts.{count_all, count_or, count_one, in_order_at}
 
 -- ---- a store in a board ------------------------------------------------------------------------------------------------------------------
@@ -464,19 +467,10 @@ module _ (R C : ℕ) (B : List ℤ) (i : ℕ) where
       ap (set B i) (to_z_pos w8 {n = n} (omega arith)) ∙ ap (λ (k : ℕ). set B i (pos k)) d ∙ sym (ap (λ (b : Bool). pick b B (set B i (pos (around R C (mine_at B) i)))) (ne_eqb _ _ ne))
 
 -- numbering that is refused writes nothing
-pub numbering_refused : (R C : ℕ) (ms : List ℕ) (B : List ℤ) (n : ℕ) → n ≡ numbering_refusal R C ms B → (n ≡ 0 → ⊥)
-    → ◌≡◌ {A = Numbered} (record { number = n; board = B }) (numbering_of R C ms B)
+pub numbering_refused : (R C : ℕ) (ms : List ℕ) (B : List ℤ) (r : Refusal) → refusal_number r ≡ numbering_refusal R C ms B
+    → ◌≡◌ {A = Numbered} (record { number = refusal_number r; board = B }) (numbering_of R C ms B)
 unfolding numbering_of
-numbering_refused R C ms B n e ne = simp (← e, ne_eqb n 0 ne)
-
--- one entry more is 0
-pub clear_more : (B : List ℤ) (i : ℕ) → i < length B → ((j : ℕ) → j < i → get_or B j (pos 0) ≡ pos 0) → (j : ℕ) → j < i + 1 → get_or (set B i (pos 0)) j (pos 0) ≡ pos 0
-clear_more B i h z j l = at_set (λ x. x ≡ pos 0) B i (pos 0) j (λ _ _. refl) (λ e. z j (omega arith)) (omega arith)
-
-pub clear_done : (A : List ℤ) (n i : ℕ) → length A ≡ n → n ≤ i → ((j : ℕ) → j < i → get_or A j (pos 0) ≡ pos 0) → A ≡ replicate n (pos 0)
-clear_done A n i e h z =
-    ext_get_or (pos 0) A (replicate n (pos 0)) (e ∙ sym (length-replicate n (pos 0)))
-    (λ j l. let k : j < n = rw e at l in z j (omega arith) ∙ sym (get_or-replicate n j (pos 0) (pos 0) k))
+numbering_refused R C ms B r e = simp (← e, ne_eqb (refusal_number r) 0 (never_0 r))
 
 pub placed_more : (C : ℕ) (ms : List ℕ) (n : ℕ) (B A : List ℤ) (q : ℕ) → A ≡ placed C ms n B → q ≡ mine_cell C ms n → set A q (negsuc 0) ≡ placed C ms (n + 1) B
 unfolding placed

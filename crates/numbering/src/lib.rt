@@ -2,12 +2,15 @@
 // The contracts cite Board and Calls of rules; specs/ has what the passes do to a board.
 #![tactic(auto)]
 
-ghost use Rattle.std.specs.Prelude.{◌≡◌, ℕ, ◌*◌, ◌<◌, length, replicate, pos};
+ghost use Rattle.std.specs.Prelude.{◌≡◌, ℕ, ◌*◌, ◌<◌, length};
 ghost use Rattle.rules.specs.Words.{every};
 ghost use Rattle.rules.specs.Board.{mines_in, mine_cell, mine_ok, numbering_refusal};
+ghost use Rattle.rules.specs.Refusals.{found_number};
 ghost use Rattle.rules.specs.Calls.{numbering_of};
 ghost use Rattle.cells.specs.Ground.{Mined};
 ghost use Rattle.numbering.specs.Numbering.{placed, number_one, number_first};
+
+use rules::Refusal;
 
 // The cell of the n-th mine of a list.
 fn mine_cell(columns: u8, list: &[u8], n: usize) -> usize
@@ -16,7 +19,7 @@ fn mine_cell(columns: u8, list: &[u8], n: usize) -> usize
 {
     let row = list[2 * n];
     let column = list[2 * n + 1];
-    boards::cell_count(row, columns) + cells::wide(column)
+    boards::cell_count(row, columns) + usize::from(column)
 }
 
 // The n-th mine is on the board and after the one before it.
@@ -40,57 +43,43 @@ fn mine_ok(rows: u8, columns: u8, list: &[u8], n: usize) -> bool
 fn mines_ok(rows: u8, columns: u8, list: &[u8]) -> bool
     ensures { result ≡ every (mine_ok rows columns list.now) (mines_in list.now) }
 {
-    let mut n = 0;
-    while n < list.len() / 2 {
+    for n in 0..list.len() / 2 {
         if !mine_ok(rows, columns, list, n) {
             return false;
         }
-        n += 1;
     }
     true
 }
 
-// The first refusal of numbering, or 0. It writes nothing.
-fn numbering_refusal(rows: u8, columns: u8, list: &[u8], mines: &[i8]) -> u16
-    ensures { result ≡ numbering_refusal rows columns list.now mines.now }
+// The first refusal of numbering. It writes nothing.
+fn numbering_refusal(rows: u8, columns: u8, list: &[u8], mines: &[i8]) -> Result<(), Refusal>
+    ensures { found_number result ≡ numbering_refusal rows columns list.now mines.now }
 {
     if !cells::size_ok(rows, columns) {
-        return 20;
+        return Err(Refusal::Size);
     }
     if mines.len() != boards::cell_count(rows, columns) {
-        return 21;
+        return Err(Refusal::Length);
     }
     if list.len() % 2 != 0 {
-        return 21;
+        return Err(Refusal::Length);
     }
     if !mines_ok(rows, columns, list) {
-        return 42;
+        return Err(Refusal::MineList);
     }
     if mines.len() <= list.len() / 2 {
-        return 24;
+        return Err(Refusal::AllMines);
     }
-    0
-}
-
-fn clear(mines: &mut [i8])
-    ensures { mines.new ≡ replicate (length mines.old) (pos 0) }
-{
-    let mut i = 0;
-    while i < mines.len() {
-        mines[i] = 0;
-        i += 1;
-    }
+    Ok(())
 }
 
 fn place_mines(columns: u8, list: &[u8], mines: &mut [i8])
     requires { (n : ℕ) → n < mines_in list.now → mine_cell columns list.now n < length mines.old }
     ensures { mines.new ≡ placed columns list.now (mines_in list.now) mines.old }
 {
-    let mut n = 0;
-    while n < list.len() / 2 {
+    for n in 0..list.len() / 2 {
         let cell = mine_cell(columns, list, n);
         mines[cell] = -1;
-        n += 1;
     }
 }
 
@@ -112,23 +101,18 @@ fn number_cells(mines: &mut [i8], rows: usize, columns: usize)
     requires { Mined mines.old rows columns }
     ensures { mines.new ≡ number_first rows columns (rows * columns) mines.old }
 {
-    let mut i = 0;
-    while i < mines.len() {
+    for i in 0..mines.len() {
         number_cell(&mut *mines, rows, columns, i);
-        i += 1;
     }
 }
 
 // Numbers a board from a list of mines, a row byte and a column byte each, or refuses and writes nothing.
-pub fn number_mines(rows: u8, columns: u8, list: &[u8], mines: &mut [i8]) -> u16
-    ensures { record { number = result; board = mines.new } ≡ numbering_of rows columns list.now mines.old }
+pub fn number_mines(rows: u8, columns: u8, list: &[u8], mines: &mut [i8]) -> Result<(), Refusal>
+    ensures { record { number = found_number result; board = mines.new } ≡ numbering_of rows columns list.now mines.old }
 {
-    let n = numbering_refusal(rows, columns, list, &*mines);
-    if n != 0 {
-        return n;
-    }
-    clear(&mut *mines);
+    numbering_refusal(rows, columns, list, &*mines)?;
+    mines.fill(0);
     place_mines(columns, list, &mut *mines);
-    number_cells(&mut *mines, cells::wide(rows), cells::wide(columns));
-    0
+    number_cells(&mut *mines, usize::from(rows), usize::from(columns));
+    Ok(())
 }

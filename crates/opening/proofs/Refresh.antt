@@ -1,19 +1,19 @@
 -- The whole of opening, from its parts: the given cells are touched, the stack is worked off, wrong flags are shown, and the work is as it was.
 use mathlib.Core.Path.{◌≡◌, refl, ap, sym, ◌∙◌}
-use mathlib.Core.Bool.{Bool, true, false, not, ◌&&◌, false≢true, true≢false}
+use mathlib.Core.Bool.{Bool, true, false, false≢true, true≢false}
 use mathlib.Core.List.{List, []}
 use Prim.Native.Nat.{ℕ, zero, suc, ◌+◌, ◌*◌, ◌≤◌}
 use native.Mathlib.Omega.{arith}
 use native.Mathlib.Numerals.{add-one}
 use borrow.Author.Tests.{ltb-true, ltb-false}
-use lib.Dec.{ltb, eqb}
+use lib.Dec.{ltb}
 use lib.ListN.{length, get_or, set}
-use lib.Seq.{ext_get_or, set-get_or, get_or-set_other}
+use lib.Seq.{ext_get_or, get_or-set_other}
 use lib.IntN.{ℤ}
-use Rattle.rules.specs.Words.{pick, stack_of}
+use Rattle.rules.specs.Words.{stack_of}
 use Rattle.rules.specs.Board.{face_at}
 use Rattle.rules.specs.Lent.{work_room}
-use Rattle.rules.specs.Opening.{run, turns, Opened, wrong_flag, crossed, crossed_if_hit, refreshed, count_shown}
+use Rattle.rules.specs.Opening.{run, turns, wrong_flag, crossed, crossed_if_hit, refreshed, count_shown}
 use Rattle.rules.specs.Lawful.{shows}
 use Rattle.cells.specs.Ground.{Below, Fitting}
 use Rattle.cells.specs.Promises.{Laid, Leaves}
@@ -25,21 +25,6 @@ use Rattle.opening.proofs.Quick.{quick_same}
 use Rattle.opening.proofs.Touching.{all_height, all_below}
 
 -- ---- wrong flags --------------------------------------------------------------------------------------------------------------------------
-
--- a flag on a safe cell, a flag on a mine, no flag
-module _ (shown : List ℕ) (i f : ℕ) where
-  pub cross_safe : eqb (get_or shown i 0) 11 ≡ true → eqb f 15 ≡ false → set shown i 14 ≡ set shown i (wrong_flag f (get_or shown i 0))
-  cross_safe a b = rw (a, b)
-
-  pub cross_mine : eqb f 15 ≡ true → shown ≡ set shown i (wrong_flag f (get_or shown i 0))
-  cross_mine b = sym (ap (λ (x : ℕ). set shown i x) (go (eqb (get_or shown i 0) 11)) ∙ set-get_or shown i 0)
-    where
-      go : (a : Bool) → pick (a && not (eqb f 15)) 14 (get_or shown i 0) ≡ get_or shown i 0
-      go true = rw b
-      go false = refl
-
-  pub cross_none : eqb (get_or shown i 0) 11 ≡ false → shown ≡ set shown i (wrong_flag f (get_or shown i 0))
-  cross_none a = sym (ap (λ (b : Bool). set shown i (pick (b && not (eqb f 15)) 14 (get_or shown i 0))) a ∙ set-get_or shown i 0)
 
 -- cells that are not yet looked at are as they were
 pub crossed_past : (B : List ℤ) (n : ℕ) (shown : List ℕ) (i : ℕ) → n ≤ i → get_or (crossed B n shown) i 0 ≡ get_or shown i 0

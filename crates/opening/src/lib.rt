@@ -3,6 +3,7 @@
 #![tactic(auto)]
 
 ghost use Rattle.std.specs.Prelude.{◌≡◌, true, false, [], ◌+◌, ◌-◌, ◌*◌, ◌<◌, ◌≤◌, length, get_or, set};
+ghost use Rattle.rules.specs.Cells.{cell_list};
 ghost use Rattle.rules.specs.Words.{stack_of};
 ghost use Rattle.rules.specs.Grid.{cell_of};
 ghost use Rattle.rules.specs.Board.{face_at};
@@ -10,11 +11,15 @@ ghost use Rattle.rules.specs.Lent.{work_room};
 ghost use Rattle.rules.specs.Opening.{closed_at, wrong_flag, crossed, refreshed, count_shown};
 ghost use Rattle.rules.specs.Lawful.{shows};
 ghost use Rattle.cells.specs.Ground.{Valued, Fitting, Below};
+ghost use Rattle.cells.specs.Stack.{stacked};
 ghost use Rattle.cells.specs.Promises.{open_in, Ticked, Laid, Leaves};
 ghost use Rattle.opening.specs.Quick.{front, touched, touched_around, touched_all};
 ghost use Rattle.opening.specs.Parts.{Spare, Roomy, Seated, Moved, Worked, opened};
 
-// Where the stack's top is, whether a mine was hit, and how many cells were opened.
+use rules::Cells;
+
+// Where the stack's top is, whether a mine was hit, and how many cells were opened. No Option and no Result: a hit stops nothing, and what was opened
+// beside it counts.
 #[derive(Clone, Copy)]
 pub struct Turn {
     pub top: usize,
@@ -22,7 +27,7 @@ pub struct Turn {
     pub opened: u32,
 }
 
-// What an opening did: whether it hit a mine, and how many cells went from closed to showing 0 to 8.
+// What an opening did: whether it hit a mine, and how many cells went from closed to showing 0 to 8, on a hit too.
 #[derive(Clone, Copy)]
 pub struct Outcome {
     pub hit: bool,
@@ -30,15 +35,10 @@ pub struct Outcome {
 }
 
 // The cell shows 10; off the board nothing does.
-fn closed(shown: &[u8], q: usize) -> bool
+pub fn closed(shown: &[u8], q: usize) -> bool
     ensures { result ≡ closed_at shown.now q }
 {
-    if q < shown.len() {
-        if shown[q] == 10 {
-            return true;
-        }
-    }
-    false
+    q < shown.len() && shown[q] == 10
 }
 
 // Opens a cell if it is closed; a 0 goes on the stack.
@@ -50,28 +50,19 @@ fn touch(mines: &[i8], shown: &mut [u8], work: &mut [u16], q: usize, past: Turn)
     if closed(shown, q) {
         let v = cells::face_at(mines, q);
         shown[q] = v;
-        let top = past.top;
         if v == 15 {
-            return Turn {
-                top,
-                hit: true,
-                opened: past.opened,
-            };
+            return Turn { hit: true, ..past };
         }
         let opened = past.opened + 1;
         if v == 0 {
-            work[top] = q as u16;
+            work[past.top] = q as u16;
             return Turn {
-                top: top + 1,
-                hit: past.hit,
+                top: past.top + 1,
                 opened,
+                ..past
             };
         }
-        return Turn {
-            top,
-            hit: past.hit,
-            opened,
-        };
+        return Turn { opened, ..past };
     }
     past
 }
@@ -116,13 +107,9 @@ fn spread_top(
     ensures { Moved (touched_around mines.now rows columns (get_or work.old (past.top - 1) 0) 8 (front (stack_of (set work.old (past.top - 1) 0) (past.top - 1)) shown.old past.hit)) (set work.old (past.top - 1) 0) (past.top - 1) shown.new work.new result.top result.hit × Ticked past.opened shown.old result.opened shown.new }
 {
     let at = past.top - 1;
-    let cell = work[at] as usize;
+    let cell = usize::from(work[at]);
     work[at] = 0;
-    let turn = Turn {
-        top: at,
-        hit: past.hit,
-        opened: past.opened,
-    };
+    let turn = Turn { top: at, ..past };
     touch_around(
         mines,
         shown,
@@ -162,18 +149,17 @@ fn work_off(
 }
 
 // Touches the given cells.
-fn touch_given(mines: &[i8], shown: &mut [u8], work: &mut [u16], given: [u16; 8], n: usize) -> Turn
+fn touch_given(mines: &[i8], shown: &mut [u8], work: &mut [u16], given: &[u16]) -> Turn
     requires roomy { Roomy mines.now shown.old work.old 0 }
-    requires n_bound { n ≤ 8 }
-    ensures { Moved (touched_all mines.now (stack_of given n) (front [] shown.old false)) work.old 0 shown.new work.new result.top result.hit × Ticked 0 shown.old result.opened shown.new }
+    ensures { Moved (touched_all mines.now (stacked given.now) (front [] shown.old false)) work.old 0 shown.new work.new result.top result.hit × Ticked 0 shown.old result.opened shown.new }
 {
     let mut turn = Turn {
         top: 0,
         hit: false,
         opened: 0,
     };
-    for i in 0..n {
-        let q = given[i] as usize;
+    for cell in given {
+        let q = usize::from(*cell);
         turn = touch(mines, shown, work, q, turn);
     }
     turn
@@ -186,10 +172,7 @@ fn cross_flag(mines: &[i8], shown: &mut [u8], i: usize)
     requires valued { Valued mines.now }
     ensures { shown.new ≡ set shown.old i (wrong_flag (face_at mines.now i) (get_or shown.old i 0)) }
 {
-    if shown[i] == 11 {
-        if cells::face_at(mines, i) == 15 {
-            return;
-        }
+    if shown[i] == 11 && cells::face_at(mines, i) != 15 {
         shown[i] = 14;
     }
 }
@@ -200,10 +183,8 @@ fn cross_flags(mines: &[i8], shown: &mut [u8])
     requires valued { Valued mines.now }
     ensures { shown.new ≡ crossed mines.now (length shown.old) shown.old }
 {
-    let mut i = 0;
-    while i < shown.len() {
+    for i in 0..shown.len() {
         cross_flag(mines, shown, i);
-        i += 1;
     }
 }
 
@@ -215,16 +196,13 @@ pub fn refresh_board(
     work: &mut [u16],
     rows: usize,
     columns: usize,
-    cells: rules::Cells,
+    cells: Cells,
 ) -> Outcome
     requires laid { Laid mines.now shown.old work.old rows columns }
-    requires n_bound { cells.n ≤ 8 }
-    requires below { Below (rows * columns) (stack_of cells.at cells.n) }
-    ensures { Leaves (opened shown.new result.hit) (refreshed mines.now rows columns (stack_of cells.at cells.n) shown.old) work.old work.new × Ticked 0 shown.old result.opened shown.new }
+    requires below { Below (rows * columns) (cell_list cells) }
+    ensures { Leaves (opened shown.new result.hit) (refreshed mines.now rows columns (stacked (cell_list cells)) shown.old) work.old work.new × Ticked 0 shown.old result.opened shown.new }
 {
-    let given = cells.at;
-    let n = cells.n;
-    let turn = touch_given(mines, shown, work, given, n);
+    let turn = touch_given(mines, shown, work, cells.as_slice());
     let o = work_off(mines, shown, work, rows, columns, turn);
     if o.hit {
         cross_flags(mines, shown);

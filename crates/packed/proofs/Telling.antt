@@ -1,5 +1,5 @@
 -- The line of an outcome has its room.
-use mathlib.Core.Path.{◌≡◌, refl, ap}
+use mathlib.Core.Path.{◌≡◌, refl, ap, ap₂}
 use mathlib.Core.List.{List, [], ◌∷◌, ◌++◌}
 use Prim.Native.Nat.{ℕ, ◌*◌, ◌<◌, ◌≤◌}
 use native.Mathlib.Omega.{arith}
@@ -32,13 +32,13 @@ line_by_length n ns shown bits e hs hb =
     let j = length-append (spaced bits) (10 ∷ []) in
     omega arith
 
-module _ (a : Answer) {ns : List ℕ} (shown bits : List ℕ) (e : ns ≡ answer_numbers a)
+module _ (a : Answer) {n : ℕ} {ns : List ℕ} (shown bits : List ℕ) (d : n ≡ a.number) (e : ns ≡ answer_numbers a)
     (hs : (i : ℕ) → get_or shown i 0 < 256) (hb : (i : ℕ) → get_or bits i 0 < 256) where
-  pub outcome_room_lem : {out : List ℕ} → outcome_room (length shown) (length bits) ≤ length out → Room (line_by a.number ns shown bits) 0 out
-  outcome_room_lem h = room_within (outcome_room (length shown) (length bits)) {at = 0} (line_by_length a.number ns shown bits (ap length e) hs hb) (omega arith)
+  pub outcome_room_lem : {out : List ℕ} → outcome_room (length shown) (length bits) ≤ length out → Room (line_by n ns shown bits) 0 out
+  outcome_room_lem h = room_within (outcome_room (length shown) (length bits)) {at = 0} (line_by_length n ns shown bits (ap length e) hs hb) (omega arith)
 
-  pub outcome_told : {out out' : List ℕ} {r : ℕ} → Put (line_by a.number ns shown bits) 0 out out' r
+  pub outcome_told : {out out' : List ℕ} {r : ℕ} → Put (line_by n ns shown bits) 0 out out' r
       → PutWithin (outcome_room (length shown) (length bits)) (outcome_line a shown bits) 0 out out' r
   outcome_told p =
       within (line_by_length a.number (answer_numbers a) shown bits refl hs hb)
-      (put_as (ap (λ (l : List ℕ). line_by a.number l shown bits) e) p)
+      (put_as (ap₂ (λ (m : ℕ) (l : List ℕ). line_by m l shown bits) d e) p)

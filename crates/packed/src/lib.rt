@@ -5,38 +5,30 @@
 
 ghost use Rattle.std.specs.Prelude.{◌≡◌, ◌<◌, ◌≤◌, length};
 ghost use Rattle.writing.specs.Put.{PutWithin};
-ghost use Rattle.packed.specs.Packed.{two_at, four_at, settings_in, counts_in, secrets_in, position_in, signed_of, signed_all};
+ghost use Rattle.packed.specs.Packed.{four_at, settings_in, counts_in, secrets_in, position_in, signed_all};
 ghost use Rattle.packed.specs.Line.{answer_numbers, outcome_line, outcome_room};
 
-use rules::{Answer, Counts, Position, Secrets, Settings};
+use rules::{Answer, Counts, GameState, MouseState, Position, Secrets, Settings};
 
 // ---- a packed step's head --------------------------------------------------------------------------------------------------------------
 
 // The bytes of a head; those that nothing names are reserved.
 pub type Head = [u8; 80];
 
-// A number of two bytes from a place on.
-fn two_at(s: &Head, at: usize) -> u32
-    requires { at < 79 }
-    ensures { (result ≡ two_at s.now at) × (result < 65536) }
-{
-    writing::wide(s[at]) + 256 * writing::wide(s[at + 1])
-}
-
-// A number of four bytes from a place on.
+// A number of four bytes from a place on, low byte first.
 fn four_at(s: &Head, at: usize) -> u32
     requires { at < 77 }
     ensures { result ≡ four_at s.now at }
 {
-    two_at(s, at) + 65536 * two_at(s, at + 2)
+    u32::from_le_bytes([s[at], s[at + 1], s[at + 2], s[at + 3]])
 }
 
-// A length, as long as its bytes allow.
+// A length of two bytes, as long as they allow.
 pub fn length_at(s: &Head, at: usize) -> usize
     requires { at < 79 }
     ensures { result < 65536 }
 {
-    two_at(s, at) as usize
+    usize::from(u16::from_le_bytes([s[at], s[at + 1]]))
 }
 
 fn settings_in(s: &Head) -> Settings
@@ -79,8 +71,8 @@ pub fn position_in(s: &Head) -> Position
     ensures { result ≡ position_in s.now }
 {
     let settings = settings_in(s);
-    let game = rules::game_at(s[4]);
-    let mouse = rules::mouse_at(s[5]);
+    let game = GameState::from(s[4]);
+    let mouse = MouseState::from(s[5]);
     let counts = counts_in(s);
     let secrets = secrets_in(s);
     Position {
@@ -97,24 +89,13 @@ pub fn position_in(s: &Head) -> Position
 
 // ---- the mine board --------------------------------------------------------------------------------------------------------------------
 
-// A byte of the mine board: 255 is -1.
-fn signed(b: u8) -> i8
-    ensures { result ≡ signed_of b }
-{
-    if b < 128 {
-        return b as i8;
-    }
-    (b as i16 - 256) as i8
-}
-
+// The cells of a mine board, one to a byte: 255 is -1.
 pub fn sign_all(bytes: &[u8], mines: &mut [i8])
     requires { length mines.old ≡ length bytes.now }
     ensures { mines.new ≡ signed_all bytes.now }
 {
-    let mut i = 0;
-    while i < bytes.len() {
-        mines[i] = signed(bytes[i]);
-        i += 1;
+    for i in 0..bytes.len() {
+        mines[i] = bytes[i].cast_signed();
     }
 }
 
@@ -127,21 +108,19 @@ fn numbers(a: Answer) -> [u32; 23]
     let x = a.place;
     let p = a.position;
     let s = p.settings;
-    let g = p.game;
-    let m = p.mouse;
     let c = p.counts;
     let k = p.secrets;
     [
-        writing::wide(rules::row_byte(x)),
-        writing::wide(rules::column_byte(x)),
+        u32::from(rules::row_byte(x)),
+        u32::from(rules::column_byte(x)),
         a.value,
-        writing::wide(s.rows),
-        writing::wide(s.columns),
-        writing::wide(s.mode),
-        cells::one_if(s.question),
-        writing::wide(rules::game_number(g)),
-        writing::wide(rules::mouse_number(m)),
-        cells::one_if(p.middle),
+        u32::from(s.rows),
+        u32::from(s.columns),
+        u32::from(s.mode),
+        u32::from(s.question),
+        u32::from(u8::from(p.game)),
+        u32::from(u8::from(p.mouse)),
+        u32::from(p.middle),
         p.preflags,
         p.events,
         c.left,
@@ -153,7 +132,7 @@ fn numbers(a: Answer) -> [u32; 23]
         c.flag,
         k.solved_left,
         k.solved_chord,
-        writing::wide(s.rules),
+        u32::from(s.rules),
         c.unopened,
     ]
 }
@@ -163,7 +142,7 @@ pub fn put_outcome(out: &mut [u8], a: Answer, shown: &[u8], bits: &[u8]) -> usiz
     ensures { PutWithin (outcome_room (length shown.now) (length bits.now)) (outcome_line a shown.now bits.now) 0 out.old out.new result }
 {
     let ns = numbers(a);
-    let first = writing::put_decimal(&mut *out, 0, a.number as u32);
+    let first = writing::put_decimal(&mut *out, 0, u32::from(a.number));
     let cells = writing::put_spaced(&mut *out, first, &ns);
     let bytes = writing::put_cells(&mut *out, cells, shown);
     let last = writing::put_cells(&mut *out, bytes, bits);

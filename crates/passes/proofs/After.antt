@@ -1,8 +1,11 @@
 -- Which passes follow a flag and a chord.
-use mathlib.Core.Path.{◌≡◌, ap, sym, ◌∙◌}
-use mathlib.Core.Bool.{true, false}
+use mathlib.Core.Path.{◌≡◌, refl, ap, sym, ◌∙◌}
+use mathlib.Core.Logic.{◌⊎◌, inl, inr}
+use mathlib.Core.Bool.{true, false, ◌||◌}
 use mathlib.Core.List.{List}
 use Prim.Native.Nat.{ℕ}
+use borrow.Author.Tests.{ne_eqb}
+use lib.Dec.{eqb}
 use lib.IntN.{ℤ}
 use Rattle.rules.specs.declared.Position.{Position}
 use Rattle.rules.specs.States.{is_playing}
@@ -11,6 +14,22 @@ use Rattle.rules.specs.Passes.{flag_pass, chord_pass, both_pass, mode_both, mode
 use Rattle.chording.specs.declared.Scanned.{Scanned}
 use Rattle.chording.specs.Scanning.{Scans}
 use Rattle.cells.specs.Promises.{Leaves}
+
+-- a mode by its number
+pub is_both : (m : ℕ) → (m ≡ 13) ⊎ (m ≡ 16) → mode_both m ≡ true
+is_both m (inl e) = rw e
+is_both m (inr e) = rw e
+
+pub is_flag : (m : ℕ) → (m ≡ 12) ⊎ (m ≡ 15) → (mode_both m ≡ false) × (mode_flag m ≡ true)
+is_flag m (inl e) = rw e (refl, refl)
+is_flag m (inr e) = rw e (refl, refl)
+
+pub is_chord : (m : ℕ) → (m ≡ 11) ⊎ (m ≡ 14) → (mode_both m ≡ false) × (mode_chord m ≡ true)
+is_chord m (inl e) = rw e (refl, refl)
+is_chord m (inr e) = rw e (refl, refl)
+
+pub neither : (m a b : ℕ) → ((m ≡ a) ⊎ (m ≡ b) → ⊥) → (eqb m a || eqb m b) ≡ false
+neither m a b f = simp (ne_eqb m a (λ e. f (inl e)), ne_eqb m b (λ e. f (inr e)))
 
 module _ (B : List ℤ) (d : Desk) where
   pub flag_over : is_playing d.position.game ≡ false → passes_after_flag B d ≡ d

@@ -2,15 +2,15 @@
 // The contracts cite rules' Passes; specs/ has what both by turns require and ensure.
 #![tactic(auto)]
 
-ghost use Rattle.std.specs.Prelude.{◌≡◌, ◌||◌, eqb};
+ghost use Rattle.std.specs.Prelude.{◌≡◌};
 ghost use Rattle.rules.specs.Clicks.{desk};
 ghost use Rattle.rules.specs.Passes.{both_round, both_pass, passes_after_flag, passes_after_chord};
 ghost use Rattle.cells.specs.Promises.{Prepared, Leaves};
 ghost use Rattle.passes.specs.Passing.{round, going};
 
-use rules::Position;
+use rules::{GameState, Position};
 
-// A position, and whether the chord pass changed something while the game goes on.
+// A position, and whether the chord pass changed something while the game goes on: the parts of the definition `Round`.
 #[derive(Clone, Copy)]
 pub struct Passed {
     pub position: Position,
@@ -31,8 +31,10 @@ fn both_round(
     let q = flagging::flag_pass(p, mines, shown, bits);
     let s = chording::chord_pass(q, mines, shown, work);
     let any = chording::goes_on(s.ever, s.position);
-    let position = s.position;
-    Passed { position, any }
+    Passed {
+        position: s.position,
+        any,
+    }
 }
 
 // Both by turns, until the chord pass changes nothing or the game is over.
@@ -46,6 +48,7 @@ pub fn both_pass(
     requires { Prepared mines.now (desk p shown.old bits.old) work.old }
     ensures { Leaves (desk result shown.new bits.new) (both_pass mines.now (desk p shown.old bits.old)) work.old work.new }
 {
+    // A `loop` with a `break` would say the same in as many lines, and is no plainer.
     let mut q = p;
     let mut go = true;
     while go {
@@ -54,16 +57,6 @@ pub fn both_pass(
         go = r.any;
     }
     q
-}
-
-// One of two modes.
-fn one_of(mode: u8, a: u8, b: u8) -> bool
-    ensures { result ≡ (eqb mode a || eqb mode b) }
-{
-    if mode == a {
-        return true;
-    }
-    mode == b
 }
 
 // After a flag added by hand: 13 and 16 run both, 12 and 15 the flag pass alone.
@@ -77,18 +70,14 @@ pub fn passes_after_flag(
     requires { Prepared mines.now (desk p shown.old bits.old) work.old }
     ensures { Leaves (desk result shown.new bits.new) (passes_after_flag mines.now (desk p shown.old bits.old)) work.old work.new }
 {
-    let g = p.game;
-    if !chording::playing(g) {
+    if p.game != GameState::Playing {
         return p;
     }
-    let mode = p.settings.mode;
-    if one_of(mode, 13, 16) {
-        return both_pass(p, mines, shown, bits, work);
+    match p.settings.mode {
+        13 | 16 => both_pass(p, mines, shown, bits, work),
+        12 | 15 => flagging::flag_pass(p, mines, shown, bits),
+        _ => p,
     }
-    if one_of(mode, 12, 15) {
-        return flagging::flag_pass(p, mines, shown, bits);
-    }
-    p
 }
 
 // After any chord by hand: 13 and 16 run both, 11 and 14 the chord pass alone.
@@ -102,17 +91,12 @@ pub fn passes_after_chord(
     requires { Prepared mines.now (desk p shown.old bits.old) work.old }
     ensures { Leaves (desk result shown.new bits.new) (passes_after_chord mines.now (desk p shown.old bits.old)) work.old work.new }
 {
-    let g = p.game;
-    if !chording::playing(g) {
+    if p.game != GameState::Playing {
         return p;
     }
-    let mode = p.settings.mode;
-    if one_of(mode, 13, 16) {
-        return both_pass(p, mines, shown, bits, work);
+    match p.settings.mode {
+        13 | 16 => both_pass(p, mines, shown, bits, work),
+        11 | 14 => chording::chord_pass(p, mines, shown, work).position,
+        _ => p,
     }
-    if one_of(mode, 11, 14) {
-        let s = chording::chord_pass(p, mines, shown, work);
-        return s.position;
-    }
-    p
 }

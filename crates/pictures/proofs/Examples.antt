@@ -1,15 +1,14 @@
 -- The writer's examples, computed by the checker over the definitions; and the reader's room. The reader's others are run (pictures/readings).
-use mathlib.Core.Path.{◌≡◌, refl, ◌∙◌}
-use mathlib.Core.Bool.{true}
+use mathlib.Core.Path.{◌≡◌, refl}
 use mathlib.Core.List.{List, [], ◌∷◌}
 use Prim.Native.Nat.{ℕ}
 use lib.Dec.{eqb}
 use lib.ListN.{length, drop, replicate}
-use borrow.Author.Tests.{eq-eqb, ne_eqb}
+use borrow.Author.Tests.{eq-eqb}
 use Rattle.rules.specs.Words.{every}
 use Rattle.rules.specs.Grid.{size_ok}
 use Rattle.rules.specs.Printout.{digits}
-use Rattle.rules.specs.Picture.{is_shown, all_shown, shown_refusal, number_lines, plain_form, byte_room, draw_by, draw_of, cell_room, read_refusal}
+use Rattle.rules.specs.Picture.{is_shown, all_shown, shown_refusal, number_lines, plain_form, byte_room, draw_by, draw_of, read_refusal}
 
 -- worked.book ends with 1 × 3 showing 1, 11, 1: `P2`, 3, 1, 17, 1, 11, 1, each on its line
 pub worked : plain_form 1 3 (1 ∷ 11 ∷ 1 ∷ []) ≡ 80 ∷ 50 ∷ 10 ∷ 51 ∷ 10 ∷ 49 ∷ 10 ∷ 49 ∷ 55 ∷ 10 ∷ 49 ∷ 10 ∷ 49 ∷ 49 ∷ 10 ∷ 49 ∷ 10 ∷ []

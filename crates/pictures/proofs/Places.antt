@@ -1,5 +1,5 @@
 -- No number but in its place of the order: what each call answers is the first row of its table that applies, and no other number is.
-use mathlib.Core.Path.{◌≡◌, refl, ap, ◌∙◌}
+use mathlib.Core.Path.{◌≡◌, refl, ap}
 use mathlib.Core.List.{List}
 use Prim.Native.Nat.{ℕ, zero, suc, ◌*◌}
 use lib.Dec.{eqb}

@@ -1,7 +1,7 @@
 -- The round trip over the definitions: a number on its line is a token, the lines of a board are its cells, and the plain form reads to what it was made of.
 use mathlib.Core.Path.{◌≡◌, refl, ap, sym, ◌∙◌}
 use mathlib.Core.Bool.{Bool, true, false}
-use mathlib.Core.List.{List, [], ◌∷◌, ◌++◌}
+use mathlib.Core.List.{List, [], ◌∷◌}
 use Prim.Native.Nat.{ℕ, zero, suc, ◌+◌, ◌-◌, ◌*◌, ◌/◌, ◌%◌, ◌<◌}
 use native.Mathlib.Omega.{arith}
 use lib.Dec.{leb, eqb}
@@ -10,7 +10,7 @@ use borrow.Author.Tests.{le-leb, ne_eqb}
 use Rattle.rules.specs.Words.{unless}
 use Rattle.rules.specs.Grid.{size_ok}
 use Rattle.rules.specs.Printout.{digits}
-use Rattle.rules.specs.Picture.{is_shown, number_lines, plain_form, is_space, is_digit, is_gap, runs_on, skipped, Token, number_from, token_at, token_of, value_of, rest_of, due, is_marked, width_of, height_of, maximum_of, rows_of, columns_of, next_cell, cell_values, picture_cells, size_refusal, maximum_refusal, cells_refusal, picture_refusal}
+use Rattle.rules.specs.Picture.{is_shown, number_lines, plain_form, is_space, is_digit, is_gap, runs_on, skipped, Token, number_from, token_at, token_of, value_of, rest_of, due, is_marked, width_of, height_of, maximum_of, rows_of, columns_of, cell_values, picture_cells, size_refusal, maximum_refusal, cells_refusal, picture_refusal}
 use Rattle.rules.specs.Picture.Token.{number}
 use Rattle.cells.proofs.Words.{and_both}
 use Rattle.cells.proofs.Grid.{size_limits}

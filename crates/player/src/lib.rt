@@ -6,19 +6,25 @@ ghost use Rattle.std.specs.Prelude.{◌≡◌, length, take, IfOk, OnOk, OnErr};
 ghost use Rattle.std.specs.Io.KnownBytes.{Appends};
 ghost use Rattle.rules.specs.Book.{book_of};
 ghost use Rattle.rules.specs.Printout.{printout_of};
-ghost use Rattle.player.specs.Rooms.{enough, Enough, printed, printed_by, PrintBookIs, WritePrintoutIs};
+ghost use Rattle.player.specs.Rooms.{text_fits, enough, Enough, printed, printed_by, PrintBookIs, WritePrintoutIs};
 ghost use Rattle.streams.specs.Streams.{AppendsPart};
 
 use std::io;
 use std::io::Write;
+
+// A place among the bytes has at most ten digits, and every printout has room.
+pub fn text_fits(bytes: usize, out: usize) -> bool
+    ensures { result ≡ text_fits bytes out }
+{
+    (bytes < 4294967296) & (172184 <= out)
+}
 
 // Enough is lent for every book.
 fn enough(bytes: usize, mines: usize, shown: usize, bits: usize, work: usize, out: usize) -> bool
     ensures { result ≡ enough bytes mines shown bits work out }
 {
     (2048 <= mines)
-        & ((2048 <= shown)
-            & ((256 <= bits) & ((16392 <= work) & ((bytes < 4294967296) & (172184 <= out)))))
+        & ((2048 <= shown) & ((256 <= bits) & ((16392 <= work) & text_fits(bytes, out))))
 }
 
 // The printout where enough is lent.
@@ -74,6 +80,7 @@ pub fn print_book(
     print_lent(s, mines, shown, bits, work, out)
 }
 
+// The rooms. Each is `[0; N]` as it is: one function over the size would be no plainer, since callers name what a room is for, and not its size.
 // Room for one book: one byte more than the longest has; boards, bits and work for 2,048 cells; every printout.
 pub fn book_buffer() -> [u8; 28681]
     ensures { 28681 ≡ length result }

@@ -8,9 +8,11 @@ ghost use Rattle.rules.specs.Step.{playing as playingOf, play_rc};
 ghost use Rattle.keep.specs.Kept.{Inside, InsideOf};
 ghost use Rattle.cells.specs.Promises.{AbleAt, Plays};
 
+use mouse::Motion;
 use rules::{Event, MouseState, Played, Pointer, Position};
 
 // From UpUp a right click; with nothing to flag to UpDownNotFlag.
+#[tactic(auto, unfolding(rules::specs::Step::play_rc, rules::specs::Mouse::moved))]
 fn play_rc(
     p: Position,
     x: Pointer,
@@ -23,24 +25,19 @@ fn play_rc(
     requires inside { Inside p.settings x }
     ensures { Plays (play_rc mines.now x) p shown.old bits.old work.old result shown.new bits.new work.new }
 {
-    let held = p.mouse;
-    let m = rules::mouse_number(held);
-    if m != 0 {
-        let q = mouse::moved(2, p);
-        return Played {
-            answer: 0,
-            position: q,
-        };
+    if p.mouse != MouseState::UpUp {
+        return mouse::moves(Motion::RightPress, p);
     }
     let v = mouse::seen_at(p, &*shown, x);
     if 10 <= v {
-        let q = mouse::moved(2, p);
+        let q = mouse::moved(Motion::RightPress, p);
         return buttons::right_at(q, x, mines, &mut *shown, &mut *bits, &mut *work);
     }
     let q = p.with_mouse(MouseState::UpDownNotFlag);
     buttons::right_at(q, x, mines, &mut *shown, &mut *bits, &mut *work)
 }
 
+#[tactic(auto, unfolding(rules::specs::Step::playing))]
 fn play_mr(
     p: Position,
     x: Pointer,
@@ -57,6 +54,7 @@ fn play_mr(
     buttons::chord_at(q, x, mines, &mut *shown, &mut *bits, &mut *work)
 }
 
+#[tactic(auto, unfolding(rules::specs::Step::playing))]
 pub fn playing(
     p: Position,
     e: Event,
@@ -75,14 +73,9 @@ pub fn playing(
         Event::Lr(x) => buttons::play_lr(p, x, mines, &mut *shown, &mut *bits, &mut *work),
         Event::Rc(x) => play_rc(p, x, mines, &mut *shown, &mut *bits, &mut *work),
         Event::Rr(x) => buttons::play_rr(p, x, mines, &mut *shown, &mut *bits, &mut *work),
-        Event::Mv(_) => buttons::answered(p),
         Event::Mc(_) => buttons::middled(p, true),
         Event::Mr(x) => play_mr(p, x, mines, &mut *shown, &mut *bits, &mut *work),
-        Event::Cc(_) => mouse::moves(7, p),
-        Event::Pf(_) => buttons::answered(p),
-        Event::Unknown {
-            code: _,
-            pointer: _,
-        } => buttons::answered(p),
+        Event::Cc(_) => mouse::moves(Motion::BothPress, p),
+        Event::Mv(_) | Event::Pf(_) | Event::Unknown { .. } => mouse::answered(p),
     }
 }

@@ -1,6 +1,6 @@
 -- The bytes of a practice: two bytes of hints asked for and two of hints followed to start from, low byte first, with no hint alive; then calls to the
 -- end. 0, rows, columns, two bytes of length and so many shown bytes is a question; 1, row, column and two bytes of opened sum is a report.
-use Rattle.std.specs.Prelude.{◌≡◌, Bool, false, ◌&&◌, List, [], ◌∷◌, ℕ, ◌+◌, ◌*◌, leb, eqb, length, take, drop, get_or}
+use Rattle.std.specs.Prelude.{◌≡◌, false, ◌&&◌, List, [], ◌∷◌, ℕ, ◌+◌, ◌*◌, leb, eqb, length, take, drop, get_or}
 use Rattle.rules.specs.declared.Place.TheVariants.{Nowhere}
 use Rattle.rules.specs.Words.{pick}
 use Rattle.rules.specs.Printout.{word_line}

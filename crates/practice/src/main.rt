@@ -2,17 +2,24 @@
 // output. specs/Practice.antt has the bytes and the lines. It reads 65,536 bytes at most; the rest of a longer input is not read.
 #![tactic(auto)]
 
-ghost use Rattle.std.specs.Prelude.{◌≡◌, ◌∷◌, [], ◌++◌, ◌+◌, ◌<◌, ◌≤◌, ℕ, List, length, IfOk, OnOk, OnErr};
+ghost use Rattle.std.specs.Prelude.{◌≡◌, ◌∷◌, [], ◌++◌, ◌+◌, ◌^◌, ◌<◌, ◌≤◌, ℕ, List, length, IfOk, OnOk, OnErr};
 ghost use Rattle.std.specs.Io.KnownBytes.{Appends};
 ghost use Rattle.rules.specs.Printout.{spaced};
 ghost use Rattle.writing.specs.Put.{PutWithin};
 ghost use Rattle.practice.specs.Practice.{two_at, score_at, Reached, broken_line, Line};
-ghost use Rattle.practice.specs.Told.{CallIs, Whole, TellsQuestion, TellsReport, Tells};
+ghost use Rattle.practice.specs.Told.{call_bytes, CallIs, Whole, TellsQuestion, TellsReport, Tells};
 ghost use Rattle.streams.specs.Streams.{AppendsPart};
 
 use rules::{Place, Score};
 use std::io;
 use std::io::Write;
+
+// A call: a question with so many shown bytes, or a report.
+#[derive(Clone, Copy)]
+enum Call {
+    Question { shown: usize },
+    Report,
+}
 
 // The score after a call, and how many bytes its line has.
 #[derive(Clone, Copy)]
@@ -24,33 +31,45 @@ struct Told {
 // ---- the bytes -------------------------------------------------------------------------------------------------------------------------
 
 // A number of two bytes, low byte first.
-fn two_at(s: &[u8], at: usize) -> u32
+fn two_at(s: &[u8], at: usize) -> u16
     requires { at + 1 < length s.now }
-    ensures { (result ≡ two_at s.now at) × (result < 65536) }
+    ensures { result ≡ two_at s.now at }
 {
-    writing::wide(s[at]) + 256 * writing::wide(s[at + 1])
+    u16::from_le_bytes([s[at], s[at + 1]])
 }
 
-// How many bytes the call at a place has; 0 where it is broken.
-fn call_length(s: &[u8], at: usize) -> usize
+impl Call {
+    // How many bytes it has.
+    fn length(self) -> usize
+        requires { call_bytes self < 2 ^ 64 }
+        ensures { result ≡ call_bytes self }
+    {
+        match self {
+            Call::Question { shown } => 5 + shown,
+            Call::Report => 5,
+        }
+    }
+}
+
+// The call at a place, if it is not broken.
+fn call_at(s: &[u8], at: usize) -> Option<Call>
     requires { at ≤ length s.now }
     ensures { CallIs s.now at result }
 {
     if s.len() - at < 5 {
-        return 0;
+        return None;
     }
-    let kind = s[at];
-    if kind == 1 {
-        return 5;
+    match s[at] {
+        0 => {
+            let shown = usize::from(two_at(s, at + 3));
+            if s.len() - at - 5 < shown {
+                return None;
+            }
+            Some(Call::Question { shown })
+        }
+        1 => Some(Call::Report),
+        _ => None,
     }
-    if kind != 0 {
-        return 0;
-    }
-    let n = two_at(s, at + 3) as usize;
-    if s.len() - at - 5 < n {
-        return 0;
-    }
-    5 + n
 }
 
 // ---- the lines -------------------------------------------------------------------------------------------------------------------------
@@ -60,26 +79,24 @@ fn put_counts(out: &mut [u8], at: usize, score: Score) -> usize
     requires { at + 23 ≤ length out.old }
     ensures { PutWithin 23 (spaced (score.asked ∷ score.followed ∷ []) ++ (10 ∷ [])) at out.old out.new result }
 {
-    let ns = [score.asked as u32, score.followed as u32];
+    let ns = [u32::from(score.asked), u32::from(score.followed)];
     let next = writing::put_spaced(out, at, &ns);
     writing::put_byte(out, next, b'\n')
 }
 
 // A question, and its line from the front of `out`.
-fn tell_question(s: &[u8], at: usize, score: Score, out: &mut [u8]) -> Told
-    requires whole { Whole s.now at }
+fn tell_question(s: &[u8], at: usize, shown: usize, score: Score, out: &mut [u8]) -> Told
+    requires whole { Whole s.now at shown }
     requires in_bounds { 74 ≤ length out.old }
     ensures { TellsQuestion s.now at score out.old out.new result }
 {
-    let n = two_at(s, at + 3) as usize;
     let from = at + 5;
-    let end = from + n;
+    let end = from + shown;
     let a = trainer::ask(score, s[at + 1], s[at + 2], &s[from..end]);
-    let hint = a.hint;
-    let after = a.score;
-    let next = wording::put_hint(out, 0, hint);
-    let long = put_counts(out, next, after);
-    Told { score: after, long }
+    let score = a.score;
+    let next = wording::put_hint(out, 0, a.hint);
+    let long = put_counts(out, next, score);
+    Told { score, long }
 }
 
 // A report, and its line from the front of `out`.
@@ -88,7 +105,7 @@ fn tell_report(s: &[u8], at: usize, score: Score, out: &mut [u8]) -> Told
     requires in_bounds { 74 ≤ length out.old }
     ensures { TellsReport s.now at score out.old out.new result }
 {
-    let opened = two_at(s, at + 3);
+    let opened = u32::from(two_at(s, at + 3));
     let after = trainer::report(score, s[at + 1], s[at + 2], opened);
     let next = writing::put_bytes(out, 0, b"reported");
     let long = put_counts(out, next, after);
@@ -96,15 +113,15 @@ fn tell_report(s: &[u8], at: usize, score: Score, out: &mut [u8]) -> Told
 }
 
 // The call at a place that is not broken.
-fn tell_call(s: &[u8], at: usize, n: usize, score: Score, out: &mut [u8]) -> Told
-    requires call_is { CallIs s.now at n × (n ≡ 0 → ⊥) }
+fn tell_call(s: &[u8], at: usize, call: Call, score: Score, out: &mut [u8]) -> Told
+    requires call_is { CallIs s.now at (Some call) }
     requires in_bounds { 74 ≤ length out.old }
     ensures { Tells s.now at score out.old out.new result }
 {
-    if s[at] == 1 {
-        return tell_report(s, at, score, out);
+    match call {
+        Call::Question { shown } => tell_question(s, at, shown, score, out),
+        Call::Report => tell_report(s, at, score, out),
     }
-    tell_question(s, at, score, out)
 }
 
 // ---- what is written -------------------------------------------------------------------------------------------------------------------
@@ -134,14 +151,20 @@ fn put_broken(out: &mut [u8], at: usize) -> usize
 }
 
 // The call at a place, and its line written; the answer is the score after it. A write that fails is the only error: it took a front of the line.
-fn run_call<W: Write>(to: &mut W, s: &[u8], at: usize, n: usize, score: Score) -> io::Result<Score>
-    requires call_is { CallIs s.now at n × (n ≡ 0 → ⊥) }
+fn run_call<W: Write>(
+    to: &mut W,
+    s: &[u8],
+    at: usize,
+    call: Call,
+    score: Score,
+) -> io::Result<Score>
+    requires call_is { CallIs s.now at (Some call) }
     requires reached { Reached s.now at score }
     ensures after { IfOk result (λ after. after ≡ score_at s.now at score) }
     ensures err { OnErr result ((text : List ℕ) × Line s.now text at × AppendsPart (W.contents to.old) (W.contents to.new) text) }
 {
     let mut out = line_room();
-    let told = tell_call(s, at, n, score, &mut out);
+    let told = tell_call(s, at, call, score, &mut out);
     let long = told.long;
     hand(to, s, at, &out[..long])?;
     Ok(told.score)
@@ -154,15 +177,15 @@ fn run_calls<W: Write>(to: &mut W, s: &[u8], first: Score) -> io::Result<()>
 {
     let mut score = first;
     let mut at = 4;
+    // `while`, since each call says how far the next one is.
     while at < s.len() {
-        let n = call_length(s, at);
-        if n == 0 {
+        let Some(call) = call_at(s, at) else {
             let mut out = line_room();
             let long = put_broken(&mut out, at);
             return hand(to, s, at, &out[..long]);
-        }
-        score = run_call(to, s, at, n, score)?;
-        at += n;
+        };
+        score = run_call(to, s, at, call, score)?;
+        at += call.length();
     }
     Ok(())
 }
@@ -179,8 +202,8 @@ fn run<W: Write>(to: &mut W, s: &[u8]) -> io::Result<()>
     let asked = two_at(s, 0);
     let followed = two_at(s, 2);
     let start = Score {
-        asked: asked as u16,
-        followed: followed as u16,
+        asked,
+        followed,
         hint: Place::Nowhere,
     };
     run_calls(to, s, start)

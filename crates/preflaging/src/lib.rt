@@ -8,9 +8,11 @@ ghost use Rattle.rules.specs.Step.{pre_left, pre_lr, pre_flaging as preFlagingOf
 ghost use Rattle.keep.specs.Kept.{Inside, InsideOf};
 ghost use Rattle.cells.specs.Promises.{AbleAt, Plays};
 
-use rules::{Event, GameState, Played, Pointer, Position};
+use mouse::Motion;
+use rules::{Event, GameState, MouseState, Played, Pointer, Position};
 
 // The left button goes up in DownUp.
+#[tactic(auto, unfolding(rules::specs::Step::pre_left))]
 fn pre_left(
     p: Position,
     x: Pointer,
@@ -24,31 +26,19 @@ fn pre_left(
     ensures { Plays (pre_left mines.now x) p shown.old bits.old work.old result shown.new bits.new work.new }
 {
     if mouse::on_cell(x) {
-        let v = mouse::seen_at(p, &*shown, x);
-        if v == 10 {
+        if mouse::seen_at(p, &*shown, x) == 10 {
             let q = p.with_game(GameState::Playing);
             return buttons::left_at(q, x, mines, &mut *shown, &mut *work);
         }
-        let q = clicks::add_left(p);
-        return Played {
-            answer: 0,
-            position: q,
-        };
+        return mouse::answered(clicks::add_left(p));
     }
     if p.preflags == 0 {
-        let q = preflags::clear(p, &mut *bits);
-        return Played {
-            answer: 0,
-            position: q,
-        };
+        return mouse::answered(preflags::clear(p, &mut *bits));
     }
-    let q = clicks::add_left(p);
-    Played {
-        answer: 0,
-        position: q,
-    }
+    mouse::answered(clicks::add_left(p))
 }
 
+#[tactic(auto, unfolding(rules::specs::Step::pre_lr, rules::specs::Mouse::moved))]
 fn pre_lr(
     p: Position,
     x: Pointer,
@@ -62,15 +52,14 @@ fn pre_lr(
     requires le_right { mouse_number p.mouse ≡ 5 → 1 ≤ p.counts.right }
     ensures { Plays (pre_lr mines.now x) p shown.old bits.old work.old result shown.new bits.new work.new }
 {
-    let held = p.mouse;
-    let m = rules::mouse_number(held);
-    if m == 3 {
-        let q = mouse::moved(1, p);
+    if p.mouse == MouseState::DownUp {
+        let q = mouse::moved(Motion::LeftRelease, p);
         return pre_left(q, x, mines, &mut *shown, &mut *bits, &mut *work);
     }
     buttons::play_lr(p, x, mines, &mut *shown, &mut *bits, &mut *work)
 }
 
+#[tactic(auto, unfolding(rules::specs::Step::pre_flaging))]
 pub fn pre_flaging(
     p: Position,
     e: Event,
@@ -91,14 +80,10 @@ pub fn pre_flaging(
         Event::Lr(x) => pre_lr(p, x, mines, &mut *shown, &mut *bits, &mut *work),
         Event::Rc(x) => preflags::pre_rc(p, x, mines, &mut *shown, &mut *bits, &mut *work),
         Event::Rr(x) => buttons::play_rr(p, x, mines, &mut *shown, &mut *bits, &mut *work),
-        Event::Mv(_) => buttons::answered(p),
         Event::Mc(_) => buttons::middled(p, true),
         Event::Mr(_) => buttons::middled(p, false),
-        Event::Cc(x) => preflags::moves_back(7, p, x),
+        Event::Cc(x) => preflags::moves_back(Motion::BothPress, p, x),
         Event::Pf(x) => preflags::pre_flag(p, x, mines, &mut *shown, &mut *bits, &mut *work),
-        Event::Unknown {
-            code: _,
-            pointer: _,
-        } => buttons::answered(p),
+        Event::Mv(_) | Event::Unknown { .. } => mouse::answered(p),
     }
 }

@@ -7,25 +7,17 @@ ghost use Rattle.rules.specs.Clicks.{desk, done};
 ghost use Rattle.rules.specs.Passes.{right_click};
 ghost use Rattle.rules.specs.Step.{cleared, cleared_if, last_taken_back, pre_cell, pre_right, pre_flag, move, back_if, back_to_ready, pre_rc};
 ghost use Rattle.keep.specs.Kept.{Inside};
+ghost use Rattle.mouse.specs.Motions.{motion_code};
 ghost use Rattle.cells.specs.Promises.{AbleAt, Plays};
 
+use mouse::Motion;
 use rules::{GameState, MouseState, Played, Pointer, Position};
-
-fn fill_zero(bits: &mut [u8])
-    ensures { bits.new ≡ replicate (length bits.old) 0 }
-{
-    let mut i = 0;
-    while i < bits.len() {
-        bits[i] = 0;
-        i += 1;
-    }
-}
 
 // Clearing: back to Ready, with the counts and the bits cleared.
 pub fn clear(p: Position, bits: &mut [u8]) -> Position
     ensures { (shown : List ℕ) → desk result shown bits.new ≡ cleared (desk p shown bits.old) }
 {
-    fill_zero(&mut *bits);
+    bits.fill(0);
     p.zeroed()
 }
 
@@ -35,9 +27,8 @@ fn take_last_back(p: Position, i: usize, shown: &mut [u8], bits: &mut [u8]) -> P
     ensures { desk result shown.new bits.new ≡ last_taken_back i (desk p shown.old bits.old) }
 {
     shown[i] = 10;
-    fill_zero(&mut *bits);
-    let y = p.with_preflags(0);
-    y.zeroed()
+    bits.fill(0);
+    p.with_preflags(0).zeroed()
 }
 
 // A question mark is taken away; with no pre-flag left the game is Ready again, cleared.
@@ -53,15 +44,10 @@ fn pre_question(
     requires i_bound { i < p.settings.rows * p.settings.columns }
     ensures { Plays (λ d. cleared_if (eqb d.position.preflags 0) (right_click mines.now i d)) p shown.old bits.old work.old result shown.new bits.new work.new }
 {
-    let n = p.preflags;
     let o = hands::right_click(p, mines, &mut *shown, &mut *bits, &mut *work, i);
-    if n == 0 {
-        let y = o.position;
-        let q = clear(y, &mut *bits);
-        return Played {
-            answer: o.answer,
-            position: q,
-        };
+    if p.preflags == 0 {
+        let position = clear(o.position, &mut *bits);
+        return Played { position, ..o };
     }
     o
 }
@@ -69,12 +55,10 @@ fn pre_question(
 fn is_last(p: Position) -> bool
     ensures { result ≡ (not p.settings.question && eqb p.preflags 1) }
 {
-    if p.settings.question {
-        return false;
-    }
-    p.preflags == 1
+    !p.settings.question && p.preflags == 1
 }
 
+#[tactic(auto, unfolding(rules::specs::Step::pre_cell))]
 fn pre_cell(
     p: Position,
     i: usize,
@@ -89,27 +73,21 @@ fn pre_cell(
     requires le_preflags { get_or shown.old i 0 ≡ 11 → 1 ≤ p.preflags }
     ensures { Plays (pre_cell mines.now i) p shown.old bits.old work.old result shown.new bits.new work.new }
 {
-    let v = shown[i];
-    if v == 10 {
-        let n = p.preflags + 1;
-        let q = p.with_preflags(n);
-        return hands::right_click(q, mines, &mut *shown, &mut *bits, &mut *work, i);
-    }
-    if v == 11 {
-        if is_last(p) {
-            let q = take_last_back(p, i, &mut *shown, &mut *bits);
-            return Played {
-                answer: 0,
-                position: q,
-            };
+    match shown[i] {
+        10 => {
+            let q = p.with_preflags(p.preflags + 1);
+            hands::right_click(q, mines, &mut *shown, &mut *bits, &mut *work, i)
         }
-        let n = p.preflags - 1;
-        let q = p.with_preflags(n);
-        return hands::right_click(q, mines, &mut *shown, &mut *bits, &mut *work, i);
+        11 if is_last(p) => mouse::answered(take_last_back(p, i, &mut *shown, &mut *bits)),
+        11 => {
+            let q = p.with_preflags(p.preflags - 1);
+            hands::right_click(q, mines, &mut *shown, &mut *bits, &mut *work, i)
+        }
+        _ => pre_question(p, i, mines, &mut *shown, &mut *bits, &mut *work),
     }
-    pre_question(p, i, mines, &mut *shown, &mut *bits, &mut *work)
 }
 
+#[tactic(auto, unfolding(rules::specs::Step::pre_right, rules::specs::Mouse::moved))]
 fn pre_right(
     p: Position,
     x: Pointer,
@@ -127,21 +105,18 @@ fn pre_right(
     match x {
         Pointer::Cell { row, column } => {
             let i = mouse::cell(p.settings.columns, row, column);
-            let q = mouse::moved(2, p);
+            let q = mouse::moved(Motion::RightPress, p);
             pre_cell(q, i, mines, &mut *shown, &mut *bits, &mut *work)
         }
         Pointer::Off => {
             let q = p.with_mouse(MouseState::UpDownNotFlag);
-            let z = marking::add_right(q);
-            Played {
-                answer: 0,
-                position: z,
-            }
+            mouse::answered(marking::add_right(q))
         }
     }
 }
 
 // A flag before the game, on a cell showing 10.
+#[tactic(auto, unfolding(rules::specs::Step::pre_flag))]
 pub fn pre_flag(
     p: Position,
     x: Pointer,
@@ -155,8 +130,7 @@ pub fn pre_flag(
     requires preflags_bound { p.preflags ≤ 70000 }
     ensures { Plays (pre_flag mines.now x) p shown.old bits.old work.old result shown.new bits.new work.new }
 {
-    let n = p.preflags + 1;
-    let y = p.with_preflags(n);
+    let y = p.with_preflags(p.preflags + 1);
     let q = y.with_game(GameState::PreFlaging);
     buttons::right_at(q, x, mines, &mut *shown, &mut *bits, &mut *work)
 }
@@ -165,36 +139,22 @@ pub fn pre_flag(
 fn back_to_ready(p: Position, x: Pointer) -> bool
     ensures { (shown bits : List ℕ) → result ≡ back_to_ready x (desk p shown bits) }
 {
-    let held = p.mouse;
-    let m = rules::mouse_number(held);
-    if m != 3 {
-        return false;
-    }
-    if mouse::on_cell(x) {
-        return p.preflags == 0;
-    }
-    false
+    p.mouse == MouseState::DownUp && mouse::on_cell(x) && p.preflags == 0
 }
 
 // The mouse state moves on; back to Ready without clearing where that is due.
-pub fn moves_back(e: usize, p: Position, x: Pointer) -> Played
-    requires { e < 8 }
-    ensures { (shown bits : List ℕ) → done result.answer (desk result.position shown bits) ≡ done 0 (back_if (back_to_ready x (desk p shown bits)) (move e (desk p shown bits))) }
+#[tactic(auto, unfolding(rules::specs::Mouse::moved))]
+pub fn moves_back(e: Motion, p: Position, x: Pointer) -> Played
+    ensures { (shown bits : List ℕ) → done result.answer (desk result.position shown bits) ≡ done 0 (back_if (back_to_ready x (desk p shown bits)) (move (motion_code e) (desk p shown bits))) }
 {
     let q = mouse::moved(e, p);
     if back_to_ready(p, x) {
-        let z = q.with_game(GameState::Ready);
-        return Played {
-            answer: 0,
-            position: z,
-        };
+        return mouse::answered(q.with_game(GameState::Ready));
     }
-    Played {
-        answer: 0,
-        position: q,
-    }
+    mouse::answered(q)
 }
 
+#[tactic(auto, unfolding(rules::specs::Step::pre_rc))]
 pub fn pre_rc(
     p: Position,
     x: Pointer,
@@ -209,10 +169,8 @@ pub fn pre_rc(
     requires by_index { (i : ℕ) → get_or shown.old i 0 ≡ 11 → 1 ≤ p.preflags }
     ensures { Plays (pre_rc mines.now x) p shown.old bits.old work.old result shown.new bits.new work.new }
 {
-    let held = p.mouse;
-    let m = rules::mouse_number(held);
-    if m == 0 {
+    if p.mouse == MouseState::UpUp {
         return pre_right(p, x, mines, &mut *shown, &mut *bits, &mut *work);
     }
-    moves_back(2, p, x)
+    moves_back(Motion::RightPress, p, x)
 }

@@ -30,7 +30,8 @@ pub fn begin(
 {
     let settings = b.settings;
     let list = book::mines(s, b);
-    numbering::number_mines(settings.rows, settings.columns, list, &mut *mines);
+    // the mines of an accepted book are not refused
+    let _ = numbering::number_mines(settings.rows, settings.columns, list, &mut *mines);
     let cells = boards::cell_count(settings.rows, settings.columns);
     cells::clear(&mut *work, 8 * cells + 8);
     boards::fresh_desk(settings, &*mines, &mut *shown, &mut *bits)
@@ -42,10 +43,8 @@ pub fn put_play(out: &mut [u8], at: usize, number: u16, o: Played) -> usize
     ensures { PutWithin 20 (line_of (number ∷ o.answer ∷ game_number o.position.game ∷ mouse_number o.position.mouse ∷ [])) at out.old out.new result }
 {
     let p = o.position;
-    let g = p.game;
-    let m = p.mouse;
-    let game = rules::game_number(g);
-    let mouse = rules::mouse_number(m);
+    let game = u8::from(p.game);
+    let mouse = u8::from(p.mouse);
     text::put_event_line(out, at, number, o.answer, game, mouse)
 }
 
@@ -63,8 +62,8 @@ pub fn finish(
     requires rows_fit { RowsFit p.settings.rows p.settings.columns shown.now (at + 131) out.old }
     ensures { Ended (131 + 4 * (p.settings.rows * p.settings.columns)) (end_lines mines.now (desk p shown.now [])) at out.old out.new result work.old work.new }
 {
-    let rows = cells::wide(p.settings.rows);
-    let columns = cells::wide(p.settings.columns);
+    let rows = usize::from(p.settings.rows);
+    let columns = usize::from(p.settings.columns);
     let total = judging::total_3bv(mines, &mut *work, rows, columns);
     let left = judging::left_to_solve(mines, shown, &mut *work, rows, columns);
     text::put_end(&mut *out, at, p, total as u32, left as u32, shown)

@@ -1,17 +1,15 @@
--- What a call is made on and what it answers, where a byte means nothing: a NotFlag mouse state without a right click is 264, and all that is
+-- What a call is made on where a byte means nothing: a NotFlag mouse state without a right click is 264, and all that is
 -- tested before it stays as it was.
 use mathlib.Core.Path.{◌≡◌, refl, ap, sym, ◌∙◌, subst⁻¹}
-use mathlib.Core.Bool.{Bool, true, false, true≢false, ◌&&◌}
+use mathlib.Core.Bool.{Bool, true, false, ◌&&◌}
 use mathlib.Core.List.{List}
 use Prim.Native.Nat.{ℕ}
 use native.Mathlib.Omega.{arith}
-use borrow.Author.Tests.{le-leb, eq-eqb, ne_eqb}
+use borrow.Author.Tests.{le-leb}
 use lib.Dec.{leb, eqb}
 use lib.IntN.{ℤ}
 use Rattle.rules.specs.declared.Settings.{Settings}
-use Rattle.rules.specs.declared.Place.{Place}
 use Rattle.rules.specs.declared.Position.{Position}
-use Rattle.rules.specs.declared.Answer.{Answer}
 use Rattle.rules.specs.declared.MouseState.TheVariants.{UpDownNotFlag}
 use Rattle.rules.specs.Words.{pick, unless}
 use Rattle.rules.specs.States.{with_mouse, with_right}
@@ -21,10 +19,8 @@ use Rattle.rules.specs.Mouse.{rules_ok}
 use Rattle.rules.specs.Lawful.{shown_lawful, bits_lawful, counts_lawful, game_lawful, states_lawful, lawful_refusal}
 use Rattle.rules.specs.Calls.{mode_ok, settings_refusal, position_refusal}
 use Rattle.cells.proofs.Words.{and_left, and_right}
-use Rattle.flats.specs.declared.FlatPosition.{FlatPosition}
-use Rattle.flats.specs.declared.FlatAnswer.{FlatAnswer}
-use Rattle.flats.specs.Flat.{means, unclear, position_in, gives, flat_answer}
-use Rattle.reads.specs.Reading.{Spoils, Reads, answer_for, reset_for}
+use Rattle.flats.specs.Flat.{unclear}
+use Rattle.reads.specs.Reading.{Spoils}
 
 -- ---- 264 and nothing before it ---------------------------------------------------------------------------------------------------------
 
@@ -105,30 +101,3 @@ module _ (p : Position) where
       subst⁻¹ (Spoils p)
       (er ∙ ap (λ (x : Position). with_right x n) eq ∙ ap (with_right (with_mouse p UpDownNotFlag)) en)
       (record { settings = refl; refused = λ fit B shown bits. refused_spoiled B shown bits fit })
-
--- ---- the two cases ---------------------------------------------------------------------------------------------------------------------
-
--- t is what the code has found of `means f`
-module _ (f : FlatPosition) (t : Bool) (et : t ≡ means f) where
-  pub reads_clear : (p : Position) → p ≡ position_in f → t ≡ true → Reads f p
-  reads_clear p ep m = record { clear = λ e. ep; spoilt = λ e. absurd (true≢false (sym m ∙ et ∙ e)) }
-
-  pub reads_spoilt : (p q : Position) → p ≡ position_in f → t ≡ false → Spoils p q → Reads f q
-  reads_spoilt p q ep m h = record { clear = λ e. absurd (true≢false (sym e ∙ sym et ∙ m)); spoilt = λ e. subst⁻¹ (λ (x : Position). Spoils x q) (sym ep) h }
-
-  module _ (a : Answer) (r : FlatAnswer) where
-    abbrev either : Bool → FlatAnswer
-    either b = pick b (flat_answer a) (gives a.number a.place f 0)
-
-    pub answer_clear : t ≡ true → r ≡ flat_answer a → r ≡ answer_for f a
-    answer_clear m e = e ∙ ap either (sym m ∙ et)
-
-    pub answer_back : t ≡ false → r ≡ gives a.number a.place f 0 → r ≡ answer_for f a
-    answer_back m e = e ∙ ap either (sym m ∙ et)
-
-module _ (f : FlatPosition) (a : Answer) (r : FlatAnswer) where
-  pub reset_done : a.number ≡ 0 → r ≡ flat_answer a → r ≡ reset_for f a
-  reset_done z e = e ∙ sym (simp (eq-eqb _ _ z))
-
-  pub reset_back : (a.number ≡ 0 → ⊥) → r ≡ gives a.number a.place f 0 → r ≡ reset_for f a
-  reset_back z e = e ∙ sym (simp (ne_eqb _ _ z))

@@ -10,37 +10,28 @@ ghost use Rattle.rules.specs.Step.{on_cell, ready_lc, ready_rc, ready as readyOf
 ghost use Rattle.keep.specs.Kept.{Inside, InsideOf};
 ghost use Rattle.cells.specs.Promises.{AbleAt, Plays};
 
-use rules::{Event, GameState, Played, Pointer, Position};
+use mouse::Motion;
+use rules::{Event, GameState, MouseState, Played, Pointer, Position};
 
 // UpUp, on a cell.
 fn starts(p: Position, x: Pointer) -> bool
     ensures { result ≡ (eqb (mouse_number p.mouse) 0 && on_cell x) }
 {
-    let held = p.mouse;
-    let m = rules::mouse_number(held);
-    if m == 0 {
-        return mouse::on_cell(x);
-    }
-    false
+    p.mouse == MouseState::UpUp && mouse::on_cell(x)
 }
 
+#[tactic(auto, unfolding(rules::specs::Step::ready_lc, rules::specs::Mouse::moved))]
 fn ready_lc(p: Position, x: Pointer) -> Played
     ensures { (shown bits : List ℕ) → done result.answer (desk result.position shown bits) ≡ ready_lc x (desk p shown bits) }
 {
-    let q = mouse::moved(0, p);
+    let q = mouse::moved(Motion::LeftPress, p);
     if starts(p, x) {
-        let z = q.with_game(GameState::PreFlaging);
-        return Played {
-            answer: 0,
-            position: z,
-        };
+        return mouse::answered(q.with_game(GameState::PreFlaging));
     }
-    Played {
-        answer: 0,
-        position: q,
-    }
+    mouse::answered(q)
 }
 
+#[tactic(auto, unfolding(rules::specs::Step::ready_rc, rules::specs::Mouse::moved))]
 fn ready_rc(
     p: Position,
     x: Pointer,
@@ -53,18 +44,16 @@ fn ready_rc(
     requires inside { Inside p.settings x }
     ensures { Plays (ready_rc mines.now x) p shown.old bits.old work.old result shown.new bits.new work.new }
 {
-    let q = mouse::moved(2, p);
+    let q = mouse::moved(Motion::RightPress, p);
     if starts(p, x) {
         let y = q.with_preflags(1);
         let z = y.with_game(GameState::PreFlaging);
         return buttons::right_at(z, x, mines, &mut *shown, &mut *bits, &mut *work);
     }
-    Played {
-        answer: 0,
-        position: q,
-    }
+    mouse::answered(q)
 }
 
+#[tactic(auto, unfolding(rules::specs::Step::ready))]
 pub fn ready(
     p: Position,
     e: Event,
@@ -80,17 +69,11 @@ pub fn ready(
 {
     match e {
         Event::Lc(x) => ready_lc(p, x),
-        Event::Lr(_) => mouse::moves(1, p),
+        Event::Lr(_) => mouse::moves(Motion::LeftRelease, p),
         Event::Rc(x) => ready_rc(p, x, mines, &mut *shown, &mut *bits, &mut *work),
-        Event::Rr(_) => mouse::moves(3, p),
-        Event::Mv(_) => buttons::answered(p),
-        Event::Mc(_) => buttons::answered(p),
-        Event::Mr(_) => buttons::answered(p),
-        Event::Cc(_) => mouse::moves(7, p),
+        Event::Rr(_) => mouse::moves(Motion::RightRelease, p),
+        Event::Cc(_) => mouse::moves(Motion::BothPress, p),
         Event::Pf(x) => preflags::pre_flag(p, x, mines, &mut *shown, &mut *bits, &mut *work),
-        Event::Unknown {
-            code: _,
-            pointer: _,
-        } => buttons::answered(p),
+        Event::Mv(_) | Event::Mc(_) | Event::Mr(_) | Event::Unknown { .. } => mouse::answered(p),
     }
 }

@@ -1,4 +1,5 @@
 -- No number but in its place of the order: each chain of refusals is its rows of the table, and a number is given exactly when its row is the first to apply.
+use Rattle.std.specs.Prelude.{Option, Some, None}
 use mathlib.Core.Path.{◌≡◌, refl, ap, ap₂, sym, ◌∙◌}
 use mathlib.Core.Bool.{Bool, true, false, ◌&&◌}
 use mathlib.Core.List.{List, [], ◌∷◌, ◌++◌}
@@ -11,8 +12,6 @@ use lib.IntN.{ℤ}
 use Rattle.rules.specs.declared.Settings.{Settings}
 use Rattle.rules.specs.declared.Pointer.{Pointer}
 use Rattle.rules.specs.declared.Event.{Event}
-use Rattle.rules.specs.declared.Decoded.{Decoded}
-use Rattle.rules.specs.declared.Decoded.TheVariants.{At, Bad}
 use Rattle.rules.specs.declared.GameState.{GameState}
 use Rattle.rules.specs.declared.GameState.TheVariants.{Ready, Playing, Win, Loss, PreFlaging}
 use Rattle.rules.specs.Words.{pick, unless}
@@ -135,16 +134,16 @@ module _ (code : ℕ) (x : Pointer) (d : Desk) where
 
 module _ (B : List ℤ) (code r c : ℕ) (d : Desk) where
   -- 30 comes before 31 to 33
-  pub step_off : pointer_of d.position.settings r c ≡ Bad → step_on B code r c d ≡ done 30 d
+  pub step_off : pointer_of d.position.settings r c ≡ None → step_on B code r c d ≡ done 30 d
   unfolding step_on step_by_of
-  step_off e = ap (λ (x : Decoded). step_by_of B code x d) e
+  step_off e = ap (λ (x : Option Pointer). step_by_of B code x d) e
 
   -- at a cell or off the board: the first row that applies, with the desk as it was, or the event is played
-  pub step_at_lem : (x : Pointer) → pointer_of d.position.settings r c ≡ At x
+  pub step_at_lem : (x : Pointer) → pointer_of d.position.settings r c ≡ Some x
       → step_on B code r c d ≡ pick (eqb (first (event_rows code x d)) 0) (play_at B code x d) (done (first (event_rows code x d)) d)
   unfolding step_on step_by_of step_at
   step_at_lem x e =
-      ap (λ (y : Decoded). step_by_of B code y d) e ∙ ap (λ (n : ℕ). pick (eqb n 0) (play_at B code x d) (done n d)) (event_rows_lem code x d)
+      ap (λ (y : Option Pointer). step_by_of B code y d) e ∙ ap (λ (n : ℕ). pick (eqb n 0) (play_at B code x d) (done n d)) (event_rows_lem code x d)
 
 -- ---- resolve: 20 to 264, then 30, then 31 ----------------------------------------------------------------------------------------------
 
@@ -154,11 +153,11 @@ module _ (B : List ℤ) (code r c : ℕ) (d : Desk) where
   resolve_unfit h = simp (ne_eqb _ _ h) (check_rows_lem B d)
 
   module _ (e : position_check B d ≡ 0) where
-    pub resolve_off : pointer_of d.position.settings r c ≡ Bad → resolve_of B code r c d ≡ answers 30 d.position 0
+    pub resolve_off : pointer_of d.position.settings r c ≡ None → resolve_of B code r c d ≡ answers 30 d.position 0
     unfolding resolve_of resolve_by
     resolve_off w = simp (eq-eqb _ _ e, w)
 
-    pub resolve_at : (x : Pointer) → pointer_of d.position.settings r c ≡ At x → (resolve_of B code r c d).number ≡ first (resolve_rows d)
+    pub resolve_at : (x : Pointer) → pointer_of d.position.settings r c ≡ Some x → (resolve_of B code r c d).number ≡ first (resolve_rows d)
     unfolding resolve_of resolve_by first
     resolve_at x w = simp (eq-eqb _ _ e, w) (go (ltb d.position.events 65535))
       where

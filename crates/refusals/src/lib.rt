@@ -1,16 +1,16 @@
-// The refusals 20 to 264, found before anything is written, and what is answered for them. A function whose answer is a number gives the first
-// that applies, or 0. The contracts cite rules' Calls; specs/Rows.antt has the table of all refusals, and proofs/Places.antt that each stands in
-// its place.
+// The refusals 20 to 264, found before anything is written, and what is answered for them. Each chain gives the first that applies.
+// The contracts cite rules' Calls; specs/Rows.antt has the table of all refusals, and proofs/Places.antt that each stands in its place.
 #![tactic(auto)]
 
 ghost use Rattle.std.specs.Prelude.{◌≡◌, true, ◌*◌, length};
 ghost use Rattle.rules.specs.Words.{unless};
+ghost use Rattle.rules.specs.Refusals.{refusal_number, found_number};
 ghost use Rattle.rules.specs.Clicks.{desk};
 ghost use Rattle.rules.specs.Mouse.{rules_ok};
 ghost use Rattle.rules.specs.Calls.{refuses, checks, boards_fit, work_fits, settings_refusal, position_refusal, position_check, lent_refusal, setup_refusal, total_refusal, flow_refusal};
 ghost use Rattle.boards.specs.Faults.{Placeable};
 
-use rules::{Answer, Position, Settings, Value};
+use rules::{Answer, Place, Position, Refusal, Settings, Value};
 
 // ---- what is lent ----------------------------------------------------------------------------------------------------------------------
 
@@ -30,78 +30,77 @@ fn work_fits(s: Settings, work: &[u16]) -> bool
 
 // ---- the chains ------------------------------------------------------------------------------------------------------------------------
 
-// The first refusal of 20 to 25, or 0, where `fit` says that every buffer of the call has its length.
-fn settings_refusal(s: Settings, fit: bool, mines: &[i8]) -> u16
+// The first refusal of 20 to 25, where `fit` says that every buffer of the call has its length.
+fn settings_refusal(s: Settings, fit: bool, mines: &[i8]) -> Result<(), Refusal>
     requires { fit ≡ true → length mines.now ≡ s.rows * s.columns }
-    ensures { result ≡ settings_refusal s fit mines.now 0 }
+    ensures { found_number result ≡ settings_refusal s fit mines.now 0 }
 {
-    let n = boards::board_refusal(s.rows, s.columns, fit, mines);
-    if n != 0 {
-        return n;
-    }
+    boards::board_refusal(s.rows, s.columns, fit, mines)?;
     if !cells::mode_ok(s.mode) {
-        return 25;
+        return Err(Refusal::Mode);
     }
-    0
+    Ok(())
 }
 
-// The first refusal of 20 to 264, or 0.
-fn position_refusal(p: Position, mines: &[i8], shown: &[u8], bits: &[u8], fit: bool) -> u16
+// The first refusal of 20 to 264.
+fn position_refusal(
+    p: Position,
+    mines: &[i8],
+    shown: &[u8],
+    bits: &[u8],
+    fit: bool,
+) -> Result<(), Refusal>
     requires { fit ≡ true → boards_fit p.settings mines.now shown.now bits.now ≡ true }
-    ensures { result ≡ position_refusal fit mines.now (desk p shown.now bits.now) }
+    ensures { found_number result ≡ position_refusal fit mines.now (desk p shown.now bits.now) }
 {
-    let s = p.settings;
-    let n = settings_refusal(s, fit, mines);
-    if n != 0 {
-        return n;
-    }
+    settings_refusal(p.settings, fit, mines)?;
     lawful::lawful_refusal(p, mines, shown, bits)
 }
 
 // The same for a call that is lent no work.
-pub fn check_refusal(p: Position, mines: &[i8], shown: &[u8], bits: &[u8]) -> u16
-    ensures { result ≡ position_check mines.now (desk p shown.now bits.now) }
+pub fn check_refusal(p: Position, mines: &[i8], shown: &[u8], bits: &[u8]) -> Result<(), Refusal>
+    ensures { found_number result ≡ position_check mines.now (desk p shown.now bits.now) }
 {
-    let s = p.settings;
-    let fits = boards_fit(s, mines, shown, bits);
+    let fits = boards_fit(p.settings, mines, shown, bits);
     position_refusal(p, mines, shown, bits, fits)
 }
 
 // And for one that is.
-pub fn lent_refusal(p: Position, mines: &[i8], shown: &[u8], bits: &[u8], work: &[u16]) -> u16
-    ensures { result ≡ lent_refusal mines.now (desk p shown.now bits.now) work.now }
+pub fn lent_refusal(
+    p: Position,
+    mines: &[i8],
+    shown: &[u8],
+    bits: &[u8],
+    work: &[u16],
+) -> Result<(), Refusal>
+    ensures { found_number result ≡ lent_refusal mines.now (desk p shown.now bits.now) work.now }
 {
-    let s = p.settings;
-    let boards = boards_fit(s, mines, shown, bits);
-    let room = work_fits(s, work);
+    let boards = boards_fit(p.settings, mines, shown, bits);
+    let room = work_fits(p.settings, work);
     position_refusal(p, mines, shown, bits, boards & room)
 }
 
 // 45 for rules that are not the league's.
-fn rules_refusal(rules: u8) -> u16
-    ensures { result ≡ unless 45 (rules_ok rules) 0 }
+fn rules_refusal(rules: u8) -> Result<(), Refusal>
+    ensures { found_number result ≡ unless 45 (rules_ok rules) 0 }
 {
     if !cells::rules_ok(rules) {
-        return 45;
+        return Err(Refusal::Rules);
     }
-    0
+    Ok(())
 }
 
-// The first refusal of 20 to 25 and 45, or 0.
-pub fn setup_refusal(s: Settings, mines: &[i8], shown: &[u8], bits: &[u8]) -> u16
-    ensures { result ≡ setup_refusal s mines.now shown.now bits.now }
+// The first refusal of 20 to 25 and 45.
+pub fn setup_refusal(s: Settings, mines: &[i8], shown: &[u8], bits: &[u8]) -> Result<(), Refusal>
+    ensures { found_number result ≡ setup_refusal s mines.now shown.now bits.now }
 {
     let fit = boards_fit(s, mines, shown, bits);
-    let first = settings_refusal(s, fit, mines);
-    let last = rules_refusal(s.rules);
-    if first != 0 {
-        return first;
-    }
-    last
+    settings_refusal(s, fit, mines)?;
+    rules_refusal(s.rules)
 }
 
-pub fn total_refusal(rows: u8, columns: u8, mines: &[i8], work: &[u16]) -> u16
-    ensures { result ≡ total_refusal rows columns mines.now work.now }
+pub fn total_refusal(rows: u8, columns: u8, mines: &[i8], work: &[u16]) -> Result<(), Refusal>
+    ensures { found_number result ≡ total_refusal rows columns mines.now work.now }
 {
     let cells = boards::cell_count(rows, columns);
     let fit = (mines.len() == cells) & (8 * cells + 8 <= work.len());
@@ -116,41 +115,55 @@ pub fn flow_refusal(
     shown: &[u8],
     bits: &[u8],
     work: &[u16],
-) -> u16
-    ensures { result ≡ flow_refusal mines.now events.now (desk p shown.now bits.now) work.now }
+) -> Result<(), Refusal>
+    ensures { found_number result ≡ flow_refusal mines.now events.now (desk p shown.now bits.now) work.now }
 {
-    let s = p.settings;
-    let boards = boards_fit(s, mines, shown, bits);
-    let room = work_fits(s, work);
+    let boards = boards_fit(p.settings, mines, shown, bits);
+    let room = work_fits(p.settings, work);
     let whole = events.len() % 3 == 0;
     position_refusal(p, mines, shown, bits, boards & (room & whole))
 }
 
 // ---- what is answered ------------------------------------------------------------------------------------------------------------------
 
-// A refusal: the position as it was, and beside 22 and 23 the faulty cell.
-pub fn refuse(n: u16, p: Position, mines: &[i8]) -> Answer
-    requires { Placeable p.settings.rows p.settings.columns mines.now n }
-    ensures { result ≡ refuses mines.now p n }
+// What a test found as the number that the public calls and the C interface answer: 0 for none.
+pub fn number_of(found: Result<(), Refusal>) -> u16
+    ensures { result ≡ found_number found }
 {
-    let place = boards::fault_of(p.settings.rows, p.settings.columns, mines, n);
+    match found {
+        Ok(()) => 0,
+        Err(refusal) => u16::from(refusal),
+    }
+}
+
+// A refusal: the position as it was, and beside 22 and 23 the faulty cell.
+pub fn refuse(refusal: Refusal, p: Position, mines: &[i8]) -> Answer
+    requires { Placeable p.settings.rows p.settings.columns mines.now (refusal_number refusal) }
+    ensures { result ≡ refuses mines.now p (refusal_number refusal) }
+{
     Answer {
-        number: n,
-        place,
+        number: u16::from(refusal),
+        place: boards::fault_of(p.settings.rows, p.settings.columns, mines, refusal),
         position: p,
         value: 0,
     }
 }
 
 // What a check has found, 0 too, with that cell.
-pub fn found(rows: u8, columns: u8, mines: &[i8], n: u16) -> Value
-    requires { Placeable rows columns mines.now n }
-    ensures { result ≡ checks rows columns mines.now n }
+pub fn found(rows: u8, columns: u8, mines: &[i8], found: Result<(), Refusal>) -> Value
+    requires { Placeable rows columns mines.now (found_number found) }
+    ensures { result ≡ checks rows columns mines.now (found_number found) }
 {
-    let place = boards::fault_of(rows, columns, mines, n);
-    Value {
-        number: n,
-        place,
-        value: 0,
+    match found {
+        Ok(()) => Value {
+            number: 0,
+            place: Place::Nowhere,
+            value: 0,
+        },
+        Err(refusal) => Value {
+            number: u16::from(refusal),
+            place: boards::fault_of(rows, columns, mines, refusal),
+            value: 0,
+        },
     }
 }

@@ -4,7 +4,7 @@
 
 ghost use Rattle.rules.specs.Promises.{ResolveIs};
 
-use rules::{Answer, Decoded, Position};
+use rules::{Answer, Position, Refusal};
 
 // Tests 20 to 31 as the step does; the value is the plain code, and in the position that comes back m has flipped the middle flag.
 pub fn resolve(
@@ -18,19 +18,17 @@ pub fn resolve(
 ) -> Answer
     ensures { ResolveIs p code row column mines.now shown.now bits.now result }
 {
-    let n = refusals::check_refusal(p, mines, shown, bits);
-    if n != 0 {
-        return refusals::refuse(n, p, mines);
+    if let Err(refusal) = refusals::check_refusal(p, mines, shown, bits) {
+        return refusals::refuse(refusal, p, mines);
     }
-    let s = p.settings;
-    let Decoded::At(_) = mouse::decode(s, row, column) else {
-        return calls::answer(30, p, 0);
+    let Some(_) = mouse::decode(p.settings, row, column) else {
+        return calls::refused(Refusal::Pointer, p);
     };
     if faults::is_full(p) {
-        return calls::answer(31, p, 0);
+        return calls::refused(Refusal::Full, p);
     }
     let plain = mouse::code_at(p, code);
     let middle = mouse::flip(code, p.middle);
     let q = p.with_middle(middle);
-    calls::answer(0, q, plain as u32)
+    calls::answer(0, q, u32::from(plain))
 }

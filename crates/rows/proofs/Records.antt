@@ -1,7 +1,8 @@
 -- A row of records, one after the other: what the loop keeps, and how it ends.
+use Rattle.std.specs.Prelude.{Option, Some, None}
 use mathlib.Core.Path.{◌≡◌, refl, ap, sym, ◌∙◌, subst⁻¹}
 use mathlib.Core.Bool.{Bool, true, false}
-use mathlib.Core.List.{List, [], ◌∷◌}
+use mathlib.Core.List.{List}
 use Prim.Native.Nat.{ℕ, zero, suc, ◌+◌, ◌-◌, ◌*◌, ◌≤◌, ◌<◌}
 use native.Mathlib.Omega.{arith}
 use native.Mathlib.Decide.{dec_lt}
@@ -20,8 +21,7 @@ use Rattle.cells.specs.Promises.{play, Plays}
 use Rattle.keep.specs.Kept.{LawfulAt, Follows}
 use Rattle.keep.proofs.Step.{step_follows}
 use Rattle.game.specs.Core.{Blank}
-use Rattle.records.specs.declared.Entry.{Entry}
-use Rattle.records.specs.declared.Entry.TheVariants.{Event, End}
+use Rattle.records.specs.declared.Record.{Record}
 use Rattle.records.specs.Entries.{entry_at, records_in}
 use Rattle.records.proofs.Entries.{entry_end, entry_event}
 use Rattle.rules.specs.Slides.{Tape, refused_by, run_to, play_record}
@@ -31,28 +31,28 @@ use Rattle.rows.specs.Rows.{tape_from, row_on}
 
 -- ---- a record played -------------------------------------------------------------------------------------------------------------------
 
-abbrev play_entry : List ℤ → Entry → Desk → Play
-play_entry B (Event code r c) d = step_on B code r c d
-play_entry B End d = done 70 d
+abbrev play_entry : List ℤ → Option Record → Desk → Play
+play_entry B (Some e) d = step_on B e.code e.row e.column d
+play_entry B None d = done 70 d
 
 module _ (B : List ℤ) (es : List ℕ) (e : ℕ) where
   entry_is : (d : Desk) → play_entry B (entry_at es e) d ≡ play_record B es e d
   entry_is d = go (dec_lt e (records_in es))
     where
       go : Dec (e < records_in es) → play_entry B (entry_at es e) d ≡ play_record B es e d
-      go (yes h) = ap (λ (x : Entry). play_entry B x d) (entry_event es e h) ∙ sym (record_there B es e d h)
+      go (yes h) = ap (λ (x : Option Record). play_entry B x d) (entry_event es e h) ∙ sym (record_there B es e d h)
       go (no h) =
           let l : records_in es ≤ e = omega arith in
-          ap (λ (x : Entry). play_entry B x d) (entry_end es e l) ∙ sym (record_past B es e d l)
+          ap (λ (x : Option Record). play_entry B x d) (entry_end es e l) ∙ sym (record_past B es e d l)
 
-  module _ (p : Position) (shown bits work : List ℕ) {x : Entry} (n : x ≡ entry_at es e) where
-    pub entry_played : (code r c : ℕ) {o : Played} {shown' bits' work' : List ℕ} → x ≡ Event code r c
-        → Plays (step_on B code r c) p shown bits work o shown' bits' work' → Plays (play_record B es e) p shown bits work o shown' bits' work'
-    entry_played code r c q w =
-        record { outcome = w.outcome ∙ (ap (λ (y : Entry). play_entry B y (desk p shown bits)) (sym q ∙ n) ∙ entry_is (desk p shown bits)); same = w.same }
+  module _ (p : Position) (shown bits work : List ℕ) {x : Option Record} (n : x ≡ entry_at es e) where
+    pub entry_played : (r : Record) {o : Played} {shown' bits' work' : List ℕ} → x ≡ Some r
+        → Plays (step_on B r.code r.row r.column) p shown bits work o shown' bits' work' → Plays (play_record B es e) p shown bits work o shown' bits' work'
+    entry_played r q w =
+        record { outcome = w.outcome ∙ (ap (λ (y : Option Record). play_entry B y (desk p shown bits)) (sym q ∙ n) ∙ entry_is (desk p shown bits)); same = w.same }
 
-    pub entry_ended : x ≡ End → Plays (play_record B es e) p shown bits work (record { answer = 70; position = p }) shown bits work
-    entry_ended q = record { outcome = ap (λ (y : Entry). play_entry B y (desk p shown bits)) (sym q ∙ n) ∙ entry_is (desk p shown bits); same = refl }
+    pub entry_ended : x ≡ None → {o : Played} → o ≡ record { answer = 70; position = p } → Plays (play_record B es e) p shown bits work o shown bits work
+    entry_ended q eo = record { outcome = ap (λ (o : Played). play o shown bits) eo ∙ (ap (λ (y : Option Record). play_entry B y (desk p shown bits)) (sym q ∙ n) ∙ entry_is (desk p shown bits)); same = refl }
 
   record_follows : (d : Desk) → LawfulAt B d → Follows B d (play_record B es e d).desk
   record_follows d l =

@@ -4,7 +4,6 @@
 
 ghost use Rattle.std.specs.Prelude.{◌≡◌, ◌+◌, ◌≤◌};
 ghost use Rattle.rules.specs.Clicks.{desk};
-ghost use Rattle.rules.specs.States.{with_events};
 ghost use Rattle.cells.specs.Promises.{Plays};
 ghost use Rattle.keep.specs.Kept.{LawfulAt};
 ghost use Rattle.game.specs.Core.{Blank};
@@ -12,8 +11,7 @@ ghost use Rattle.rules.specs.Slides.{play_record};
 ghost use Rattle.records.specs.Entries.{entry_at, records_in};
 ghost use Rattle.rows.specs.Rows.{row_on, move_of, Moves};
 
-use records::Entry;
-use rules::{Decoded, Played, Position, Settings};
+use rules::{Played, Position, Refusal, Settings};
 
 // The record at an index, played; 70 past the end.
 fn play_record(
@@ -29,65 +27,37 @@ fn play_record(
     requires blank { Blank p.settings work.old }
     ensures { Plays (play_record mines.now section.now e) p shown.old bits.old work.old result shown.new bits.new work.new }
 {
-    match records::nth(section, e) {
-        Entry::Event { code, row, column } => {
-            let record = [code, row, column];
-            flows::next_event(p, &record, 0, mines, &mut *shown, &mut *bits, &mut *work)
-        }
-        Entry::End => Played {
-            answer: 70,
-            position: p,
-        },
-    }
+    let Some(record) = records::nth(section, e) else {
+        return game::refused(Refusal::Stop, p);
+    };
+    let event = [record.code, record.row, record.column];
+    flows::next_event(p, &event, 0, mines, &mut *shown, &mut *bits, &mut *work)
 }
 
 // The record at an index is a move that its pointer does not refuse.
 fn is_move(s: Settings, section: &[u8], e: usize) -> bool
     ensures { result ≡ move_of s (entry_at section.now e) }
 {
-    let Entry::Event { code, row, column } = records::nth(section, e) else {
+    let Some(record) = records::nth(section, e) else {
         return false;
     };
-    if code != 4 {
+    if record.code != 4 {
         return false;
     }
-    let Decoded::At(_) = mouse::decode(s, row, column) else {
-        return false;
-    };
-    true
+    mouse::decode(s, record.row, record.column).is_some()
 }
 
 // Moves that follow each other from a record on, at most so many: a recording holds long rows of them.
-fn moves(s: Settings, section: &[u8], from: usize, left: usize, most: u32) -> u32
-    requires { from + left ≤ records_in section.now }
-    ensures { Moves s section.now from result × ((result ≤ left) × (result ≤ most)) }
+fn moves(s: Settings, section: &[u8], from: usize, most: usize) -> usize
+    requires { from + most ≤ records_in section.now }
+    ensures { Moves s section.now from result × (result ≤ most) }
 {
-    let mut e = from;
-    let mut n = 0u32;
-    while n < most {
-        if from + left <= e {
+    for n in 0..most {
+        if !is_move(s, section, from + n) {
             return n;
         }
-        if !is_move(s, section, e) {
-            return n;
-        }
-        e += 1;
-        n += 1;
     }
-    n
-}
-
-// Moves change the count of events alone, in every game state.
-fn count_moves(p: Position, n: u32) -> Played
-    requires { p.events + n ≤ 65535 }
-    ensures { result ≡ record { answer = 0; position = with_events p (p.events + n) } }
-{
-    let k = p.events + n;
-    let q = p.with_events(k);
-    Played {
-        answer: 0,
-        position: q,
-    }
+    most
 }
 
 // The records from one to another, up to the first refused one, with moves counted together.
@@ -111,12 +81,14 @@ pub fn play_row(
         answer: 0,
         position: p,
     };
+    // No `for`: a step takes one record, or all the moves that follow each other.
     while e < to {
         let q = o.position;
-        let n = moves(q.settings, section, e, to - e, 65535 - q.events);
+        let most = (to - e).min((65535 - q.events) as usize);
+        let n = moves(q.settings, section, e, most);
         if n != 0 {
-            o = count_moves(q, n);
-            e += n as usize;
+            o = flows::count_moves(q, n as u32);
+            e += n;
         } else {
             o = play_record(q, section, e, mines, &mut *shown, &mut *bits, &mut *work);
             if 20 <= o.answer {

@@ -1,12 +1,11 @@
 -- The entry points: for each call, its refusals in their order, and its one outcome for every input.
-use Rattle.std.specs.Prelude.{Bool, true, ◌&&◌, ◌||◌, List, [], ◌∷◌, ℕ, ◌+◌, ◌*◌, ◌%◌, ltb, leb, eqb, length, replicate, ℤ}
+use Rattle.std.specs.Prelude.{Bool, true, ◌&&◌, ◌||◌, List, [], ◌∷◌, ℕ, ◌+◌, ◌*◌, ◌%◌, ltb, leb, eqb, length, replicate, ℤ, Option, Some, None}
+use Rattle.rules.specs.declared.Pointer.{Pointer}
 use Rattle.rules.specs.declared.Position.{Position}
 use Rattle.rules.specs.declared.Settings.{Settings}
 use Rattle.rules.specs.declared.Answer.{Answer}
 use Rattle.rules.specs.declared.Value.{Value}
 use Rattle.rules.specs.declared.Place.TheVariants.{Nowhere}
-use Rattle.rules.specs.declared.Decoded.{Decoded}
-use Rattle.rules.specs.declared.Decoded.TheVariants.{At, Bad}
 use Rattle.rules.specs.declared.GameState.TheVariants.{Loss}
 use Rattle.rules.specs.Words.{pick, unless}
 use Rattle.rules.specs.States.{mouse_number, fresh_of, with_game, with_middle}
@@ -122,12 +121,12 @@ reset_of B d =
 -- ---- resolve ---------------------------------------------------------------------------------------------------------------------------
 
 -- 30, then 31; else the plain code is the value, and `m` flips the middle flag; no event is counted
-unfoldable pub resolve_by : ℕ → Decoded → Position → Answer
-resolve_by code (At x) p =
+unfoldable pub resolve_by : ℕ → Option Pointer → Position → Answer
+resolve_by code (Some x) p =
     pick (ltb p.events 65535)
     (answers 0 (with_middle p (flipped code p.middle)) (resolved p.settings.rules code (mouse_number p.mouse) p.middle))
     (answers 31 p 0)
-resolve_by code Bad p = answers 30 p 0
+resolve_by code None p = answers 30 p 0
 
 -- resolve tests 20 to 31 as the step does
 unfoldable pub resolve_of : List ℤ → ℕ → ℕ → ℕ → Desk → Answer

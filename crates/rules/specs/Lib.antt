@@ -1,5 +1,7 @@
 pub mod Words
 pub mod States
+pub mod Refusals
+pub mod Cells
 pub mod Grid
 pub mod Board
 pub mod Lent

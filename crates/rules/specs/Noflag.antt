@@ -1,12 +1,10 @@
 -- The no-flag class: some leagues forbid the right button. A profile with its own setup, step and book reading, in mode 0 only; all else is the full game's.
-use Rattle.std.specs.Prelude.{◌≡◌, Bool, not, ◌&&◌, ◌||◌, List, [], ◌∷◌, ◌++◌, ℕ, ltb, leb, eqb, ℤ}
+use Rattle.std.specs.Prelude.{◌≡◌, Bool, not, ◌&&◌, ◌||◌, List, [], ◌∷◌, ◌++◌, ℕ, ltb, leb, eqb, ℤ, Option, Some, None}
 use Rattle.rules.specs.declared.Position.{Position}
 use Rattle.rules.specs.declared.Settings.{Settings}
 use Rattle.rules.specs.declared.Answer.{Answer}
 use Rattle.rules.specs.declared.Book.{Book}
 use Rattle.rules.specs.declared.Pointer.{Pointer}
-use Rattle.rules.specs.declared.Decoded.{Decoded}
-use Rattle.rules.specs.declared.Decoded.TheVariants.{At, Bad}
 use Rattle.rules.specs.Words.{pick, unless}
 use Rattle.rules.specs.States.{fresh_of}
 use Rattle.rules.specs.Grid.{size_ok}
@@ -35,9 +33,9 @@ class_refusal_at code x d =
 unfoldable pub class_step_at : List ℤ → ℕ → Pointer → Desk → Play
 class_step_at B code x d = pick (eqb (class_refusal_at code x d) 0) (play_at B code x d) (done (class_refusal_at code x d) d)
 
-unfoldable pub class_step_by : List ℤ → ℕ → Decoded → Desk → Play
-class_step_by B code (At x) d = class_step_at B code x d
-class_step_by B code Bad d = done 30 d
+unfoldable pub class_step_by : List ℤ → ℕ → Option Pointer → Desk → Play
+class_step_by B code (Some x) d = class_step_at B code x d
+class_step_by B code None d = done 30 d
 
 -- THE event of the class at a desk whose board and position are in order: 30, 31, 34, 32, 33, or it is resolved and played
 unfoldable pub class_step_on : List ℤ → ℕ → ℕ → ℕ → Desk → Play

@@ -1,10 +1,8 @@
 -- One event in each of the five game states: what it answers and leaves, and the refusals 30 to 33; resolved first, or plain.
-use Rattle.std.specs.Prelude.{Bool, true, false, not, ◌&&◌, ◌||◌, List, ℕ, ◌+◌, ◌-◌, ltb, leb, eqb, length, get_or, set, replicate, ℤ}
+use Rattle.std.specs.Prelude.{Bool, true, false, not, ◌&&◌, ◌||◌, List, ℕ, ◌+◌, ◌-◌, ltb, leb, eqb, length, get_or, set, replicate, ℤ, Option, Some, None}
 use Rattle.rules.specs.declared.Settings.{Settings}
 use Rattle.rules.specs.declared.Pointer.{Pointer}
 use Rattle.rules.specs.declared.Pointer.TheVariants.{Cell, Off}
-use Rattle.rules.specs.declared.Decoded.{Decoded}
-use Rattle.rules.specs.declared.Decoded.TheVariants.{At, Bad}
 use Rattle.rules.specs.declared.Event.{Event}
 use Rattle.rules.specs.declared.Event.TheVariants.{Lc, Lr, Rc, Rr, Mv, Mc, Mr, Cc, Pf, Unknown}
 use Rattle.rules.specs.declared.GameState.{GameState}
@@ -193,9 +191,9 @@ by_game Loss B e d = done 0 d
 -- ---- the refusals 30 to 33 -------------------------------------------------------------------------------------------------------------
 
 -- 30: the pointer is neither a cell nor exactly (rows, columns)
-unfoldable pub pointer_of : Settings → ℕ → ℕ → Decoded
+unfoldable pub pointer_of : Settings → ℕ → ℕ → Option Pointer
 pointer_of s r c =
-    pick (ltb r s.rows && ltb c s.columns) (At (Cell r c)) (pick (eqb r s.rows && eqb c s.columns) (At Off) Bad)
+    pick (ltb r s.rows && ltb c s.columns) (Some (Cell r c)) (pick (eqb r s.rows && eqb c s.columns) (Some Off) None)
 
 -- the event of a plain code
 unfoldable pub event_of : ℕ → Pointer → Event
@@ -282,9 +280,9 @@ play_at B code x d =
 unfoldable pub step_at : List ℤ → ℕ → Pointer → Desk → Play
 step_at B code x d = pick (eqb (refusal_at code x d) 0) (play_at B code x d) (done (refusal_at code x d) d)
 
-unfoldable pub step_by_of : List ℤ → ℕ → Decoded → Desk → Play
-step_by_of B code (At x) d = step_at B code x d
-step_by_of B code Bad d = done 30 d
+unfoldable pub step_by_of : List ℤ → ℕ → Option Pointer → Desk → Play
+step_by_of B code (Some x) d = step_at B code x d
+step_by_of B code None d = done 30 d
 
 -- THE event of a game at a desk whose board and position are in order: 30 to 33, or it is resolved and played
 unfoldable pub step_on : List ℤ → ℕ → ℕ → ℕ → Desk → Play

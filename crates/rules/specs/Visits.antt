@@ -1,7 +1,7 @@
 -- Visiting books, as one table and one theorem that the checker computes over the definitions: the verdicts of both programs, and what they write.
-use Rattle.std.specs.Prelude.{◌≡◌, refl, List, [], ◌∷◌, ◌++◌, ℕ, eqb}
+use Rattle.std.specs.Prelude.{◌≡◌, refl, List, [], ◌∷◌, ◌++◌, ℕ}
 use Rattle.rules.specs.declared.Verdict.TheVariants.{Accepted, Refused, EventRefused, ClaimDiffers}
-use Rattle.rules.specs.Words.{pick, count, every, first_not, in_order, stack_of, rounds}
+use Rattle.rules.specs.Words.{count, every, first_not, in_order, stack_of, rounds}
 use Rattle.rules.specs.States.{mouse_at}
 use Rattle.rules.specs.Grid.{size_ok, ninth, cell_before, neighbour, around, pushed, cells_if}
 use Rattle.rules.specs.Board.{zero_at, lone_at, safe_in, mine_ok, listed_mine, numbered_at, numbered}

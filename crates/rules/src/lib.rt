@@ -2,11 +2,12 @@
 // The contracts cite specs/States.antt, which gives document 01's number for every state.
 #![tactic(auto)]
 
-ghost use Rattle.std.specs.Prelude.{◌≡◌};
+ghost use Rattle.std.specs.Prelude.{◌≡◌, ◌≤◌};
 ghost use Rattle.rules.specs.States.{game_number, game_at, mouse_number, mouse_at, with_game, with_mouse, with_middle, with_preflags, with_events, with_left, with_right, with_double, with_lce, with_dce, with_flag, with_unopened, with_rce, with_solved_left, with_solved_chord, zeroed, fresh_of};
+ghost use Rattle.rules.specs.Refusals.{refusal_number};
 ghost use Rattle.rules.specs.Board.{row_byte, column_byte};
 
-#[derive(Clone, Copy)]
+#[derive(Clone, Copy, PartialEq, Eq)]
 pub enum GameState {
     Ready,
     Playing,
@@ -16,7 +17,7 @@ pub enum GameState {
 }
 
 // The left and the right button, up or down.
-#[derive(Clone, Copy)]
+#[derive(Clone, Copy, PartialEq, Eq)]
 pub enum MouseState {
     UpUp,
     UpDown,
@@ -27,17 +28,11 @@ pub enum MouseState {
     DownUpAfterChording,
 }
 
+// Off the board is a pointer of its own and no missing one, which is the None of `mouse::decode`.
 #[derive(Clone, Copy)]
 pub enum Pointer {
     Cell { row: u8, column: u8 },
     Off,
-}
-
-// The pointer of two bytes: a cell, or exactly (rows, columns), else none.
-#[derive(Clone, Copy)]
-pub enum Decoded {
-    At(Pointer),
-    Bad,
 }
 
 // A plain event: l, r and m are resolved before one is made.
@@ -56,7 +51,7 @@ pub enum Event {
 }
 
 // The league's rules are a number and no enum, since every byte is taken: 1 and 2 are allowed.
-#[derive(Clone, Copy)]
+#[derive(Clone, Copy, PartialEq, Eq)]
 pub struct Settings {
     pub rows: u8,
     pub columns: u8,
@@ -98,7 +93,7 @@ pub struct Position {
     pub secrets: Secrets,
 }
 
-// What an action of the hand answers, and the position that it leaves.
+// What an action of the hand answers, and the position that it leaves. The answer is a number, since `Play` of rules/specs has 0 to 4 and the refusals in one.
 #[derive(Clone, Copy)]
 pub struct Played {
     pub answer: u16,
@@ -112,7 +107,50 @@ pub enum Place {
     At { row: u8, column: u8 },
 }
 
+// Why a call is refused; the number that every face answers for it is its `u16`.
+#[derive(Clone, Copy)]
+pub enum Refusal {
+    // of a board, its settings and what is lent
+    Size,
+    Length,
+    Value,
+    Number,
+    AllMines,
+    Mode,
+    // of an event
+    Pointer,
+    Full,
+    PreFlag,
+    Event,
+    Forbidden,
+    // of a game book
+    Short,
+    Byte,
+    MineList,
+    Surplus,
+    TooMany,
+    Rules,
+    // of a picture
+    Mark,
+    Measure,
+    Maximum,
+    Cell,
+    End,
+    // of a drag
+    Stop,
+    Stride,
+    Room,
+    // of a claims section
+    Claims,
+    // of a position
+    Shown,
+    Bits,
+    Counts,
+    States,
+}
+
 // What a public call answers: a number with its place, the position, and beside them the value asked for, 0 where none is.
+// One record for an answer and a refusal, since `answers` and `refuses` of rules/specs and the C interface have one.
 #[derive(Clone, Copy)]
 pub struct Answer {
     pub number: u16,
@@ -121,7 +159,7 @@ pub struct Answer {
     pub value: u32,
 }
 
-// What a public call without a position answers.
+// What a public call without a position answers; one record too, by `checks` of rules/specs and the C interface.
 #[derive(Clone, Copy)]
 pub struct Value {
     pub number: u16,
@@ -129,14 +167,16 @@ pub struct Value {
     pub value: u32,
 }
 
-// Cells of the board, at most eight, in row order.
+// Cells of the board, at most eight: an array with a count, passed by value from the chord to opening and counting, without a heap.
 #[derive(Clone, Copy)]
 pub struct Cells {
     pub at: [u16; 8],
     pub n: usize,
+    pub ghost few: { n ≤ 8 },
 }
 
 // What a book says: its settings, and where its mines and its events stand; or the first fault, with its byte place.
+// One record with places, since `book_of` of rules/specs gives one and the C interface hands it out.
 #[derive(Clone, Copy)]
 pub struct Book {
     pub number: u16,
@@ -148,7 +188,7 @@ pub struct Book {
     pub events: usize,
 }
 
-// What a picture says: its rows and its columns; or the first fault.
+// What a picture says: its rows and its columns; or the first fault. One record, since `ReadPictureIs` of rules/specs is about one.
 #[derive(Clone, Copy)]
 pub struct Picture {
     pub number: u16,
@@ -156,7 +196,7 @@ pub struct Picture {
     pub columns: u8,
 }
 
-// What a question is answered: a cell to open with its number's cell, nothing to show, or the number of a refusal.
+// What a question is answered: a cell to open with its number's cell, nothing to show, or the number of a refusal, as `HintIs` of rules/specs has it.
 #[derive(Clone, Copy)]
 pub enum Hint {
     Cell {
@@ -201,57 +241,140 @@ pub struct Claim {
     pub section: [u8; 38],
 }
 
-pub fn game_number(g: GameState) -> u8
-    ensures { result ≡ game_number g }
-{
-    match g {
-        GameState::Ready => 0,
-        GameState::Playing => 1,
-        GameState::Win => 2,
-        GameState::Loss => 3,
-        GameState::PreFlaging => 4,
+impl From<GameState> for u8 {
+    ghost from_gives = { λ g n. n ≡ game_number g };
+
+    fn from(g: GameState) -> u8 {
+        match g {
+            GameState::Ready => 0,
+            GameState::Playing => 1,
+            GameState::Win => 2,
+            GameState::Loss => 3,
+            GameState::PreFlaging => 4,
+        }
     }
 }
 
-pub fn mouse_number(m: MouseState) -> u8
-    ensures { result ≡ mouse_number m }
-{
-    match m {
-        MouseState::UpUp => 0,
-        MouseState::UpDown => 1,
-        MouseState::UpDownNotFlag => 2,
-        MouseState::DownUp => 3,
-        MouseState::Chording => 4,
-        MouseState::ChordingNotFlag => 5,
-        MouseState::DownUpAfterChording => 6,
+impl From<MouseState> for u8 {
+    ghost from_gives = { λ m n. n ≡ mouse_number m };
+
+    fn from(m: MouseState) -> u8 {
+        match m {
+            MouseState::UpUp => 0,
+            MouseState::UpDown => 1,
+            MouseState::UpDownNotFlag => 2,
+            MouseState::DownUp => 3,
+            MouseState::Chording => 4,
+            MouseState::ChordingNotFlag => 5,
+            MouseState::DownUpAfterChording => 6,
+        }
     }
 }
 
-#[tactic(auto, unfolding(crate::specs::States::game_at))]
-pub fn game_at(n: u8) -> GameState
-    ensures { result ≡ game_at n }
-{
-    match n {
-        0 => GameState::Ready,
-        1 => GameState::Playing,
-        2 => GameState::Win,
-        3 => GameState::Loss,
-        _ => GameState::PreFlaging,
+// Every byte from 4 on is the last state.
+impl From<u8> for GameState {
+    ghost from_gives = { λ n g. g ≡ game_at n };
+
+    #[tactic(auto, unfolding(crate::specs::States::game_at))]
+    fn from(n: u8) -> GameState {
+        match n {
+            0 => GameState::Ready,
+            1 => GameState::Playing,
+            2 => GameState::Win,
+            3 => GameState::Loss,
+            _ => GameState::PreFlaging,
+        }
     }
 }
 
-#[tactic(auto, unfolding(crate::specs::States::mouse_at))]
-pub fn mouse_at(n: u8) -> MouseState
-    ensures { result ≡ mouse_at n }
-{
-    match n {
-        0 => MouseState::UpUp,
-        1 => MouseState::UpDown,
-        2 => MouseState::UpDownNotFlag,
-        3 => MouseState::DownUp,
-        4 => MouseState::Chording,
-        5 => MouseState::ChordingNotFlag,
-        _ => MouseState::DownUpAfterChording,
+// Every byte from 6 on is the last state.
+impl From<u8> for MouseState {
+    ghost from_gives = { λ n m. m ≡ mouse_at n };
+
+    #[tactic(auto, unfolding(crate::specs::States::mouse_at))]
+    fn from(n: u8) -> MouseState {
+        match n {
+            0 => MouseState::UpUp,
+            1 => MouseState::UpDown,
+            2 => MouseState::UpDownNotFlag,
+            3 => MouseState::DownUp,
+            4 => MouseState::Chording,
+            5 => MouseState::ChordingNotFlag,
+            _ => MouseState::DownUpAfterChording,
+        }
+    }
+}
+
+impl From<Refusal> for u16 {
+    ghost from_gives = { λ r n. n ≡ refusal_number r };
+
+    fn from(r: Refusal) -> u16 {
+        match r {
+            Refusal::Size => 20,
+            Refusal::Length => 21,
+            Refusal::Value => 22,
+            Refusal::Number => 23,
+            Refusal::AllMines => 24,
+            Refusal::Mode => 25,
+            Refusal::Pointer => 30,
+            Refusal::Full => 31,
+            Refusal::PreFlag => 32,
+            Refusal::Event => 33,
+            Refusal::Forbidden => 34,
+            Refusal::Short => 40,
+            Refusal::Byte => 41,
+            Refusal::MineList => 42,
+            Refusal::Surplus => 43,
+            Refusal::TooMany => 44,
+            Refusal::Rules => 45,
+            Refusal::Mark => 60,
+            Refusal::Measure => 61,
+            Refusal::Maximum => 62,
+            Refusal::Cell => 63,
+            Refusal::End => 64,
+            Refusal::Stop => 70,
+            Refusal::Stride => 71,
+            Refusal::Room => 72,
+            Refusal::Claims => 80,
+            Refusal::Shown => 261,
+            Refusal::Bits => 262,
+            Refusal::Counts => 263,
+            Refusal::States => 264,
+        }
+    }
+}
+
+impl Cells {
+    ghost use Rattle.std.specs.Prelude.{[], ◌∷◌, ◌++◌, ◌<◌, length};
+    ghost use Rattle.rules.specs.Cells.{cell_list};
+
+    pub fn new() -> Cells
+        ensures { cell_list result ≡ [] }
+    {
+        Cells { at: [0; 8], n: 0 }
+    }
+
+    pub fn only(cell: u16) -> Cells
+        ensures { cell_list result ≡ cell ∷ [] }
+    {
+        Cells {
+            at: [cell, 0, 0, 0, 0, 0, 0, 0],
+            n: 1,
+        }
+    }
+
+    pub fn push(&mut self, cell: u16)
+        requires { length (cell_list self.old) < 8 }
+        ensures { cell_list self.new ≡ cell_list self.old ++ cell ∷ [] }
+    {
+        self.at[self.n] = cell;
+        self.n += 1;
+    }
+
+    pub fn as_slice(&self) -> &[u16]
+        ensures { result.now ≡ cell_list self.now }
+    {
+        &self.at[..self.n]
     }
 }
 
@@ -304,42 +427,18 @@ pub fn fresh(settings: Settings, unopened: u32) -> Position
 }
 
 impl Position {
-    pub fn with_game(self, g: GameState) -> Position
+    pub fn with_game(mut self, g: GameState) -> Position
         ensures { result ≡ with_game self g }
     {
-        let settings = self.settings;
-        let mouse = self.mouse;
-        let counts = self.counts;
-        let secrets = self.secrets;
-        Position {
-            settings,
-            game: g,
-            mouse,
-            middle: self.middle,
-            preflags: self.preflags,
-            events: self.events,
-            counts,
-            secrets,
-        }
+        self.game = g;
+        self
     }
 
-    pub fn with_mouse(self, m: MouseState) -> Position
+    pub fn with_mouse(mut self, m: MouseState) -> Position
         ensures { result ≡ with_mouse self m }
     {
-        let settings = self.settings;
-        let game = self.game;
-        let counts = self.counts;
-        let secrets = self.secrets;
-        Position {
-            settings,
-            game,
-            mouse: m,
-            middle: self.middle,
-            preflags: self.preflags,
-            events: self.events,
-            counts,
-            secrets,
-        }
+        self.mouse = m;
+        self
     }
 
     pub fn with_middle(mut self, b: bool) -> Position
@@ -434,17 +533,11 @@ impl Position {
     }
 
     // Back to Ready with the counts cleared, but for the safe cells still closed, the solved counts, the pre-flag count and the events.
-    pub fn zeroed(self) -> Position
+    pub fn zeroed(mut self) -> Position
         ensures { result ≡ zeroed self }
     {
-        let settings = self.settings;
-        let mouse = self.mouse;
-        let secrets = Secrets {
-            rce: 0,
-            solved_left: self.secrets.solved_left,
-            solved_chord: self.secrets.solved_chord,
-        };
-        let counts = Counts {
+        self.game = GameState::Ready;
+        self.counts = Counts {
             left: 0,
             right: 0,
             double: 0,
@@ -453,15 +546,7 @@ impl Position {
             flag: 0,
             unopened: self.counts.unopened,
         };
-        Position {
-            settings,
-            game: GameState::Ready,
-            mouse,
-            middle: self.middle,
-            preflags: self.preflags,
-            events: self.events,
-            counts,
-            secrets,
-        }
+        self.secrets.rce = 0;
+        self
     }
 }

@@ -26,7 +26,7 @@ use Rattle.drags.proofs.Books.{drag_before}
 use Rattle.keeping.specs.Keeps.{kept_of}
 use Rattle.slider.specs.declared.Drag.{Drag}
 use Rattle.slider.specs.declared.Opening.{Opening}
-use Rattle.slider.specs.Promises.{lent_of, dragged_by, OpenIs, DragIs}
+use Rattle.slider.specs.Promises.{lent_of, OpenIs, DragIs}
 use Rattle.scrub.specs.Told.{told, told_numbers, Tellable}
 
 line_short : (n : ℕ) (ns : List ℕ) → length ns ≡ 15 → length (line_of (n ∷ ns)) ≤ 176
@@ -108,9 +108,9 @@ module _ (s : List ℕ) (b : Book) (e : b ≡ book_of s) (z : b.number ≡ 0) wh
       record { start = omega arith; column = f.column; cells = long; fits = omega arith }
 
 -- the numbers as the code has them
-pub numbers_are : (o : Drag) {x x' y y' b : ℕ} → x ≡ x' → x' ≡ game_number o.position.game → y ≡ y' → y' ≡ mouse_number o.position.mouse → b ≡ bit o.position.middle
-    → o.answer ∷ x ∷ y ∷ b ∷ (nine_counts o.position ++ (o.position.preflags ∷ o.position.events ∷ [])) ≡ told_numbers o
-numbers_are o hx hx' hy hy' hb = rw (hx, hx', hy, hy', hb)
+pub numbers_are : (o : Drag) {a x x' y y' b : ℕ} → a ≡ o.answer → x ≡ x' → x' ≡ game_number o.position.game → y ≡ y' → y' ≡ mouse_number o.position.mouse → b ≡ bit o.position.middle
+    → a ∷ x ∷ y ∷ b ∷ (nine_counts o.position ++ (o.position.preflags ∷ o.position.events ∷ [])) ≡ told_numbers o
+numbers_are o ha hx hx' hy hy' hb = rw (ha, hx, hx', hy, hy', hb)
 
 -- an opening that was not refused was on an accepted book
 pub opened_book : (s : List ℕ) (r : Opening) → OpenIs s r → r.number ≡ 0 → (b : Book) → b ≡ book_of s → b.number ≡ 0

@@ -23,15 +23,13 @@ fn numbers(o: Drag) -> [u32; 15]
     ensures { result ≡ told_numbers o }
 {
     let p = o.position;
-    let g = p.game;
-    let m = p.mouse;
     let c = p.counts;
     let k = p.secrets;
     [
-        o.answer as u32,
-        writing::wide(rules::game_number(g)),
-        writing::wide(rules::mouse_number(m)),
-        cells::one_if(p.middle),
+        u32::from(o.answer),
+        u32::from(u8::from(p.game)),
+        u32::from(u8::from(p.mouse)),
+        u32::from(p.middle),
         c.left,
         c.right,
         c.double,
@@ -57,8 +55,8 @@ fn put_drag(out: &mut [u8], g: Settings, o: Drag, shown: &[u8]) -> usize
     let start = o.start as u32;
     let ns = numbers(o);
     let first = writing::put_line(&mut *out, 0, start, &ns);
-    let rows = cells::wide(g.rows);
-    let columns = cells::wide(g.columns);
+    let rows = usize::from(g.rows);
+    let columns = usize::from(g.columns);
     text::put_rows(&mut *out, first, rows, columns, shown)
 }
 
@@ -97,43 +95,20 @@ enum Word {
     Other,
 }
 
-fn is_reset(s: &[u8]) -> bool {
-    if s.len() != 5 {
-        return false;
-    }
-    (s[0] == b'r') & ((s[1] == b'e') & ((s[2] == b's') & ((s[3] == b'e') & (s[4] == b't'))))
-}
-
-// A number one digit longer, or the largest where it does not fit.
-fn longer(n: u32, digit: u8) -> u32
-    requires { digit < 10 }
-{
-    if 429496728 < n {
-        return 4294967295;
-    }
-    10 * n + writing::wide(digit)
-}
-
-// A word of decimal digits, `reset`, or another one.
+// A word of decimal digits, `reset`, or another one. A number that does not fit is the largest.
 fn word_of(s: &[u8]) -> Word {
-    if is_reset(s) {
+    if s == b"reset".as_slice() {
         return Word::Reset;
     }
-    if s.len() == 0 {
+    if s.is_empty() {
         return Word::Other;
     }
     let mut n = 0u32;
-    let mut i = 0;
-    while i < s.len() {
-        let b = s[i];
-        if b < b'0' {
+    for b in s {
+        if !b.is_ascii_digit() {
             return Word::Other;
         }
-        if b'9' < b {
-            return Word::Other;
-        }
-        n = longer(n, b - b'0');
-        i += 1;
+        n = n.saturating_mul(10).saturating_add(u32::from(*b - b'0'));
     }
     Word::Number(n)
 }
@@ -154,16 +129,6 @@ fn room_bytes() -> [u8; ROOM]
     ensures { 1048576 ≡ length result }
 {
     [0; ROOM]
-}
-
-// As many bytes of room as are asked for, or all that there are.
-fn at_most(n: usize) -> usize
-    ensures { result ≤ 1048576 }
-{
-    if ROOM < n {
-        return ROOM;
-    }
-    n
 }
 
 // One drag on boards of the book's size, told; the slider after it.
@@ -232,14 +197,7 @@ fn go<W: Write>(
     )
 }
 
-// The slider after a word, and whether it was one.
-#[derive(Clone, Copy)]
-struct Turn {
-    slider: Slider,
-    more: bool,
-}
-
-// One word: a drag, or a reset.
+// One word: a drag, or a reset; the slider after it, or none where it was another.
 fn take_word<R: Env + Eprint, W: Write>(
     rt: &R,
     to: &mut W,
@@ -249,31 +207,21 @@ fn take_word<R: Env + Eprint, W: Write>(
     b: Book,
     k: u32,
     room: &mut [u8],
-) -> io::Result<Turn>
+) -> io::Result<Option<Slider>>
     requires { (b ≡ book_of s.now) × (b.number ≡ 0) }
 {
     match argument(rt, i) {
         Word::Number(n) => {
             let after = go(to, slider, s, b, n, k, &mut *room)?;
-            Ok(Turn {
-                slider: after,
-                more: true,
-            })
+            Ok(Some(after))
         }
         Word::Reset => {
             streams::write_all(to, b"reset\n")?;
-            let after = slider::reset(slider);
-            Ok(Turn {
-                slider: after,
-                more: true,
-            })
+            Ok(Some(slider::reset(slider)))
         }
         Word::Other => {
             usage(rt)?;
-            Ok(Turn {
-                slider,
-                more: false,
-            })
+            Ok(None)
         }
     }
 }
@@ -291,15 +239,12 @@ fn walk<R: Env + Eprint, W: Write>(
     requires { (b ≡ book_of s.now) × (b.number ≡ 0) }
 {
     let count = streams::arg_count(rt);
-    let mut t = Turn { slider, more: true };
-    let mut i = 3;
-    while i < count {
-        let now = t.slider;
-        t = take_word(rt, to, now, i, s, b, k, &mut *room)?;
-        if !t.more {
+    let mut now = slider;
+    for i in 3..count {
+        let Some(after) = take_word(rt, to, now, i, s, b, k, &mut *room)? else {
             return Ok(());
-        }
-        i += 1;
+        };
+        now = after;
     }
     Ok(())
 }
@@ -332,9 +277,9 @@ fn scrub<R: Env + Eprint, W: Write>(rt: &R, to: &mut W, s: &[u8]) -> io::Result<
         return usage(rt);
     };
     let mut room = room_bytes();
-    let most = at_most(long as usize);
-    let slider = o.slider;
-    walk(rt, to, slider, s, b, k, &mut room[..most])
+    // As many bytes of room as are asked for, or all that there are.
+    let most = (long as usize).min(ROOM);
+    walk(rt, to, o.slider, s, b, k, &mut room[..most])
 }
 
 fn main(rt: HostRuntime) -> io::Result<()> {

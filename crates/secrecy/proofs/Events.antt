@@ -1,4 +1,5 @@
 -- One event, refused or played in any game state, is quiet. Assumes nothing.
+use Rattle.std.specs.Prelude.{Option, Some, None}
 use mathlib.Core.Path.{◌≡◌, refl, sym, ap, ◌∙◌}
 use mathlib.Core.List.{List}
 use mathlib.Core.Bool.{Bool, true, false, not, ◌&&◌}
@@ -9,8 +10,6 @@ use lib.Dec.{leb, eqb}
 use borrow.Author.Tests.{eqb-true}
 use Rattle.rules.specs.declared.Pointer.{Pointer}
 use Rattle.rules.specs.declared.Pointer.TheVariants.{Cell, Off}
-use Rattle.rules.specs.declared.Decoded.{Decoded}
-use Rattle.rules.specs.declared.Decoded.TheVariants.{At, Bad}
 use Rattle.rules.specs.declared.Event.{Event}
 use Rattle.rules.specs.declared.Event.TheVariants.{Lc, Lr, Rc, Rr, Mv, Mc, Mr, Cc, Pf, Unknown}
 use Rattle.rules.specs.declared.GameState.{GameState}
@@ -19,7 +18,7 @@ use Rattle.rules.specs.declared.MouseState.TheVariants.{UpDownNotFlag}
 use Rattle.rules.specs.Words.{pick}
 use Rattle.rules.specs.States.{is_loss, with_game, with_mouse, with_middle, with_preflags, with_right}
 use Rattle.rules.specs.Grid.{cell_of}
-use Rattle.rules.specs.Clicks.{Desk, Play, desk, done, on, columns_of, add_left, add_right, take_back}
+use Rattle.rules.specs.Clicks.{Desk, Play, done, on, columns_of, add_left, add_right, take_back}
 use Rattle.rules.specs.Passes.{right_click}
 use Rattle.rules.specs.Opening.{closed_at}
 use Rattle.rules.specs.Mouse.{moved, flipped}
@@ -286,10 +285,10 @@ step_at_quiet code x s =
     (λ B h. ap (λ (n : ℕ). pick (eqb n 0) (play_at B code x (over s h)) (done n (over s h))) (sym (refusal_at_lem code x s h)))
     (branch a_play (lost_in s) s.shown (eqb (refusal_at code x s) 0) (λ _. play_at_quiet code x s) (λ _. idle (lost_in s) (refusal_at code x s) s refl))
 
-step_by_quiet : (code : ℕ) (p : Decoded) (s : Desk) → Quiet a_play (lost_in s) s.shown (λ B h. step_by_of B code p (over s h))
+step_by_quiet : (code : ℕ) (p : Option Pointer) (s : Desk) → Quiet a_play (lost_in s) s.shown (λ B h. step_by_of B code p (over s h))
 unfolding step_by_of
-step_by_quiet code (At x) s = step_at_quiet code x s
-step_by_quiet code Bad s = idle (lost_in s) 30 s refl
+step_by_quiet code (Some x) s = step_at_quiet code x s
+step_by_quiet code None s = idle (lost_in s) 30 s refl
 
 -- THE step is quiet
 pub step_quiet : (code r c : ℕ) (s : Desk) → Quiet a_play (lost_in s) s.shown (λ B h. step_on B code r c (over s h))

@@ -7,6 +7,8 @@ use native.Mathlib.Omega.{arith}
 use borrow.Author.Tests.{leb-true, leb-false, lt-leb, ne_eqb, eq-eqb, eqb-true}
 use lib.Dec.{leb, eqb}
 use lib.ListN.{length, get_or}
+use Rattle.std.specs.Bool.{MatchBool}
+use Rattle.std.specs.List.{AllWithin, HoldsAt}
 use Rattle.rules.specs.Words.{unless}
 use Rattle.rules.specs.Grid.{size_ok}
 use Rattle.rules.specs.Picture.{is_shown, all_shown, shown_refusal}
@@ -39,6 +41,13 @@ module _ (shown : List ℕ) where
   pub all_fails : (i : ℕ) → i < length shown → is_shown (get_or shown i 0) ≡ false → all_shown shown ≡ false
   unfolding all_shown
   all_fails i h e = every_fails (λ k. is_shown (get_or shown k 0)) (length shown) i h e
+
+-- as a scan tells it: each value is shown, or one of them is not
+pub scanned : (shown : List ℕ) (r : Bool)
+    → MatchBool r (AllWithin (λ (v : ℕ). is_shown v ≡ true) shown 0 (length shown)) ((k : ℕ) × (k < length shown) × HoldsAt (λ (v : ℕ). is_shown v ≡ false) shown k)
+    → r ≡ all_shown shown
+scanned shown true h = sym (at_all shown (λ i l. h i 0 (omega arith) l))
+scanned shown false h = sym (all_fails shown h.0 h.1 (h.2 0))
 
 -- ---- the refusals ------------------------------------------------------------------------------------------------------------------------
 

@@ -4,40 +4,36 @@
 
 ghost use Rattle.std.specs.Prelude.{◌≡◌};
 ghost use Rattle.rules.specs.Picture.{is_shown, all_shown, shown_refusal};
+ghost use Rattle.rules.specs.Refusals.{found_number};
 
-// 0 to 8, 10, 11, 14, 15 and 17.
+use rules::Refusal;
+
+#[tactic(auto, unfolding(rules::specs::Picture::is_shown))]
 pub fn is_shown(v: u8) -> bool
     ensures { result ≡ is_shown v }
 {
-    (v <= 8) | ((v == 10) | ((v == 11) | ((v == 14) | ((v == 15) | (v == 17)))))
+    matches!(v, 0..=8 | 10 | 11 | 14 | 15 | 17)
 }
 
 fn all_shown(shown: &[u8]) -> bool
     ensures { result ≡ all_shown shown.now }
 {
-    let mut i = 0;
-    while i < shown.len() {
-        if !is_shown(shown[i]) {
-            return false;
-        }
-        i += 1;
-    }
-    true
+    shown.iter().all(|v| is_shown(*v))
 }
 
-// 20, 21, 261 or 0, where `fit` says that whatever else is lent has its length.
-pub fn shown_refusal(rows: u8, columns: u8, shown: &[u8], fit: bool) -> u16
-    ensures { result ≡ shown_refusal rows columns shown.now fit }
+// Size, length or a value that is never shown, where `fit` says that whatever else is lent has its length.
+pub fn shown_refusal(rows: u8, columns: u8, shown: &[u8], fit: bool) -> Result<(), Refusal>
+    ensures { found_number result ≡ shown_refusal rows columns shown.now fit }
 {
     if !cells::size_ok(rows, columns) {
-        return 20;
+        return Err(Refusal::Size);
     }
     let fits = (shown.len() == boards::cell_count(rows, columns)) & fit;
     if !fits {
-        return 21;
+        return Err(Refusal::Length);
     }
     if !all_shown(shown) {
-        return 261;
+        return Err(Refusal::Shown);
     }
-    0
+    Ok(())
 }

@@ -1,5 +1,5 @@
 -- The refusals as the code finds them, and an accepted drag as what `sliding` leaves on the board of the book.
-use mathlib.Core.Path.{◌≡◌, refl, ap, sym, ◌∙◌, subst, subst⁻¹}
+use mathlib.Core.Path.{◌≡◌, ap, sym, ◌∙◌, subst⁻¹}
 use mathlib.Core.Bool.{Bool, true, false, not, ◌&&◌, ◌||◌}
 use mathlib.Core.List.{List, ◌++◌}
 use Prim.Native.Nat.{ℕ, ◌+◌, ◌*◌, ◌/◌, ◌≤◌, ◌<◌}
@@ -11,10 +11,10 @@ use borrow.Author.Tests.{eq-eqb, ne_eqb, le-leb, lt-leb, eqb-true, leb-true, not
 use Rattle.rules.specs.declared.Settings.{Settings}
 use Rattle.rules.specs.declared.Position.{Position}
 use Rattle.rules.specs.declared.Book.{Book}
-use Rattle.rules.specs.Words.{pick, unless}
+use Rattle.rules.specs.Words.{pick}
 use Rattle.rules.specs.States.{fresh_of}
 use Rattle.rules.specs.Lent.{bit_bytes, work_room, work_after}
-use Rattle.rules.specs.Clicks.{Desk, Play, desk}
+use Rattle.rules.specs.Clicks.{Desk}
 use Rattle.rules.specs.Calls.{cells_in, boards_fit, work_fits, fresh_desk}
 use Rattle.rules.specs.Book.{book_of, events_of, part_of}
 use Rattle.rules.specs.Printout.{book_board, book_desk}
@@ -26,13 +26,12 @@ use Rattle.game.specs.Core.{Blank}
 use Rattle.book.proofs.Accepting.{events_part}
 use Rattle.printing.specs.Boards.{Fit, Begun}
 use Rattle.printing.proofs.Beginning.{book_lawful}
-use Rattle.rules.specs.Slides.{Kept, Slide, Lent, Dragged, slide_to, tape_of, size_for, slots_of, book_tape, book_slots, lent_fits_of, room_fits, drag_refusal, dragged, undragged, drag_by, drag_of}
+use Rattle.rules.specs.Slides.{Slide, Lent, slide_to, tape_of, slots_of, book_tape, book_slots, lent_fits_of, room_fits, drag_refusal, dragged, undragged, drag_of}
 use Rattle.keeping.specs.Keeps.{kept_of}
 use Rattle.sliding.specs.declared.Slid.{Slid}
 use Rattle.sliding.specs.Drag.{Ready, slid, drag_to}
 use Rattle.records.specs.Entries.{records_in}
 use Rattle.drags.proofs.Books.{Accepted, drag_accepted, drag_goes, drag_refused, book_records}
-use Rattle.slider.specs.declared.Drag.{Drag}
 use Rattle.slider.specs.declared.Slider.{Slider}
 use Rattle.slider.specs.Promises.{lent_of, dragged_by, dragged_on, OpenIs}
 
@@ -100,12 +99,6 @@ lent_fit g mines shown bits work e =
     }
 
 -- ---- a drag ----------------------------------------------------------------------------------------------------------------------------
-
-pub number_some : (a : ℕ) → 20 ≤ a → a ≡ pick (leb 20 a) a 0
-number_some a h = sym (simp (le-leb 20 a h))
-
-pub number_none : (a : ℕ) → a < 20 → 0 ≡ pick (leb 20 a) a 0
-number_none a h = sym (simp (lt-leb 20 a h))
 
 cleared_blank : (g : Settings) (w : List ℕ) → Blank g (replicate (work_room (cells_in g)) 0 ++ drop (work_room (cells_in g)) w)
 cleared_blank g w =

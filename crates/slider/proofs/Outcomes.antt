@@ -6,7 +6,7 @@ use lib.IntN.{ℤ}
 use lib.ListN.{length}
 use Rattle.rules.specs.Book.{book_of}
 use Rattle.cells.proofs.Words.{one}
-use Rattle.rules.specs.Slides.{Kept, Lent, Dragged, Opened, Call, emptied, after_calls, drag_refusal, undragged, drag_of}
+use Rattle.rules.specs.Slides.{Kept, Dragged, Opened, Call, emptied, after_calls, drag_refusal, undragged}
 use Rattle.keeping.specs.Keeps.{kept_of}
 use Rattle.drags.specs.Same.{Slid}
 use Rattle.drags.proofs.Books.{drag_refused, slides_same}

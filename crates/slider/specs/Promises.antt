@@ -2,7 +2,7 @@
 -- memory after the call.
 use Rattle.std.specs.Prelude.{◌≡◌, List, ℕ, ℤ, length}
 use Rattle.rules.specs.declared.Book.{Book}
-use Rattle.rules.specs.Slides.{Kept, Lent, Dragged, Opened, slide_to, book_tape, book_slots, dragged, drag_of, open_of}
+use Rattle.rules.specs.Slides.{Kept, Lent, Dragged, slide_to, book_tape, book_slots, dragged, drag_of, open_of}
 use Rattle.keeping.specs.Keeps.{kept_of}
 use Rattle.slider.specs.declared.Slider.{Slider}
 use Rattle.slider.specs.declared.Opening.{Opening}

@@ -5,19 +5,20 @@
 ghost use Rattle.std.specs.Prelude.{◌≡◌, List, ℕ, ◌≤◌, ℤ, eqb, leb, length};
 ghost use Rattle.rules.specs.Words.{pick};
 ghost use Rattle.rules.specs.Book.{book_of};
+ghost use Rattle.rules.specs.Refusals.{found_number};
 ghost use Rattle.printing.specs.Boards.{Fit};
 ghost use Rattle.rules.specs.Slides.{lent_fits_of, room_fits, drag_refusal, undragged};
 ghost use Rattle.keeping.specs.Keeps.{kept_of};
 ghost use Rattle.slider.specs.Promises.{lent_of, dragged_by, dragged_on, OpenIs, ResetIs, DragIs};
 
-use rules::{Book, Position, Settings};
+use rules::{Book, Position, Refusal, Settings};
 
 #[derive(Clone, Copy)]
 pub struct Slider {
     pub kept: usize,
 }
 
-// The book's own refusal with its byte place, or 0; and the slider.
+// The book's own refusal with its byte place, or 0; and the slider. A number and no Result: `OpenIs` of specs/Promises.antt reads all three of any opening.
 #[derive(Clone, Copy)]
 pub struct Opening {
     pub number: u16,
@@ -26,6 +27,7 @@ pub struct Opening {
 }
 
 // The call's refusal, or 0, with the book's byte place; from which event the drag started, what `step_flow` answers, the position, and the slider.
+// Numbers and no Result: `DragIs` of specs/Promises.antt reads every part of a refused drag too.
 #[derive(Clone, Copy)]
 pub struct Drag {
     pub number: u16,
@@ -48,12 +50,11 @@ pub fn open(s: &[u8]) -> Opening
     }
 }
 
-pub fn reset(slider: Slider) -> Slider
+pub fn reset(mut slider: Slider) -> Slider
     ensures { ResetIs slider result }
 {
-    let mut emptied = slider;
-    emptied.kept = 0;
-    emptied
+    slider.kept = 0;
+    slider
 }
 
 // ---- the refusals ----------------------------------------------------------------------------------------------------------------------
@@ -75,6 +76,7 @@ fn room_fits(g: Settings, room: usize) -> bool
     (room == 0) | (keeping::HEAD + (cells + (cells + 7) / 8) <= room)
 }
 
+// Of a book that has no refusal of its own.
 fn drag_refusal(
     b: Book,
     n: usize,
@@ -84,26 +86,24 @@ fn drag_refusal(
     shown: &[u8],
     bits: &[u8],
     work: &[u16],
-) -> u16
-    ensures { result ≡ drag_refusal b n k room (lent_of mines.now shown.now bits.now work.now) }
+) -> Result<(), Refusal>
+    requires { b.number ≡ 0 }
+    ensures { found_number result ≡ drag_refusal b n k room (lent_of mines.now shown.now bits.now work.now) }
 {
-    if b.number != 0 {
-        return b.number;
-    }
     let g = b.settings;
     if !lent_fits(g, mines, shown, bits, work) {
-        return 21;
+        return Err(Refusal::Length);
     }
     if b.events < n {
-        return 70;
+        return Err(Refusal::Stop);
     }
     if k == 0 {
-        return 71;
+        return Err(Refusal::Stride);
     }
     if !room_fits(g, room) {
-        return 72;
+        return Err(Refusal::Room);
     }
-    0
+    Ok(())
 }
 
 // ---- a drag ----------------------------------------------------------------------------------------------------------------------------
@@ -112,24 +112,19 @@ fn drag_refusal(
 fn flow_number(a: u16) -> u16
     ensures { result ≡ pick (leb 20 a) a 0 }
 {
-    if 20 <= a {
-        return a;
-    }
-    0
+    if 20 <= a { a } else { 0 }
 }
 
 // A refused drag: nothing is changed, the slider too.
 fn refused(b: Book, number: u16, slider: Slider) -> Drag
     ensures { (mines : List ℤ) (shown bits work room : List ℕ) → dragged_by result mines shown bits work room ≡ undragged b number (kept_of slider.kept room) (lent_of mines shown bits work) }
 {
-    let g = b.settings;
-    let position = rules::fresh(g, 0);
     Drag {
         number,
         place: b.place,
         start: 0,
         answer: 0,
-        position,
+        position: rules::fresh(b.settings, 0),
         slider,
     }
 }
@@ -166,16 +161,15 @@ fn drag_on(
         &mut *work,
         &mut *room,
     );
-    let g = o.glided;
-    let position = g.position;
-    let slider = Slider { kept: g.kept };
     Drag {
         number: 0,
         place: 0,
         start: o.start,
-        answer: flow_number(g.answer),
-        position,
-        slider,
+        answer: flow_number(o.glided.answer),
+        position: o.glided.position,
+        slider: Slider {
+            kept: o.glided.kept,
+        },
     }
 }
 
@@ -195,9 +189,11 @@ pub fn drag_to(
     ensures { DragIs slider.kept s.now n k mines.old shown.old bits.old work.old room.old result mines.new shown.new bits.new work.new room.new }
 {
     let b = book::read_book(s);
-    let number = drag_refusal(b, n, k, room.len(), &*mines, &*shown, &*bits, &*work);
-    if number != 0 {
-        return refused(b, number, slider);
+    if b.number != 0 {
+        return refused(b, b.number, slider);
+    }
+    if let Err(r) = drag_refusal(b, n, k, room.len(), &*mines, &*shown, &*bits, &*work) {
+        return refused(b, u16::from(r), slider);
     }
     drag_on(slider, s, b, n, k, mines, shown, bits, work, room)
 }

@@ -1,16 +1,20 @@
 -- One equation for each case of a drag: which slot, whether what stands there can be right, and the way from there or from the start.
-use mathlib.Core.Path.{◌≡◌, refl, ap, sym, ◌∙◌, subst, subst⁻¹}
-use mathlib.Core.Bool.{Bool, true, false, ◌&&◌}
+use Rattle.std.specs.Prelude.{Result, Ok, Err, is_ok}
+use mathlib.Core.Path.{◌≡◌, refl, ap, sym, ◌∙◌, subst⁻¹}
+use mathlib.Core.Bool.{Bool, true, false, ◌&&◌, beq}
 use mathlib.Core.List.{List}
-use Prim.Native.Nat.{ℕ, suc, ◌+◌, ◌-◌, ◌*◌, ◌/◌, ◌≤◌, ◌<◌}
+use Prim.Native.Nat.{ℕ, suc, ◌+◌, ◌-◌, ◌*◌, ◌/◌, ◌≤◌}
 use native.Mathlib.Omega.{arith}
 use native.Mathlib.Nat.{mul-le-mul_right, div-mul-le_self}
 use lib.Dec.{eqb, ltb, leb}
 use lib.IntN.{ℤ}
 use lib.ListN.{length, drop, length-drop}
 use lib.Seq.{length-take-le}
-use borrow.Author.Tests.{eqb-true, leb-true, leb-false, le-leb, lt-leb, le-ltb, lt-ltb, ltb-true, ltb-false}
+use borrow.Author.Tests.{ne_eqb, eqb-true, leb-true, leb-false, ltb-false}
 use Rattle.rules.specs.declared.Settings.{Settings}
+use Rattle.rules.specs.declared.Refusal.{Refusal}
+use Rattle.rules.specs.Refusals.{refusal_number, found_number}
+use Rattle.cells.proofs.Refused.{never_0}
 use Rattle.rules.specs.declared.Position.{Position}
 use Rattle.rules.specs.Words.{pick, bit}
 use Rattle.rules.specs.Lent.{bit_bytes}
@@ -23,37 +27,34 @@ use Rattle.lawful.specs.Parts.{Checkable}
 use Rattle.keep.specs.Kept.{Ground, LawfulAt}
 use Rattle.keep.proofs.Lawful.{lawful_kept, law_split}
 use Rattle.game.specs.Core.{Blank}
-use Rattle.rules.specs.Slides.{Tape, Slots, Kept, Gliding, Slide, emptied, held, glide, glide_from, from_start_of, slot_for, slide_from, slide_to, desk_in, tape_of, size_for, same_settings, slots_of}
-use Rattle.slides.proofs.Slides.{by_cases}
+use Rattle.rules.specs.Slides.{Tape, Slots, Kept, Gliding, emptied, held, glide_from, from_start_of, slot_for, slide_from, slide_to, desk_in, tape_of, size_for, same_settings, slots_of}
 use Rattle.keeping.specs.Keeps.{kept_of}
 use Rattle.keeping.proofs.Keeps.{slot_there}
-use Rattle.gliding.specs.Glides.{gliding, glide_of}
+use Rattle.gliding.specs.Glides.{glide_of}
 use Rattle.gliding.proofs.Ways.{glide_any}
 use Rattle.sliding.specs.Drag.{Ready, Startable, drag_from, drag_to}
 
--- ---- which slot ------------------------------------------------------------------------------------------------------------------------
-
-pub held_none : (kept most : ℕ) → most < kept → 0 ≡ pick (ltb most kept) 0 kept
-held_none kept most h = sym (simp (lt-ltb most kept h))
-
-pub held_all : (kept most : ℕ) → kept ≤ most → kept ≡ pick (ltb most kept) 0 kept
-held_all kept most h = sym (simp (le-ltb most kept h))
-
-pub slot_first : (kept q : ℕ) → kept ≤ q → kept ≡ pick (leb kept q) kept q
-slot_first kept q h = sym (simp (le-leb kept q h))
-
-pub slot_second : (kept q : ℕ) → q < kept → q ≡ pick (leb kept q) kept q
-slot_second kept q h = sym (simp (lt-leb kept q h))
-
 -- ---- whether it can be right -----------------------------------------------------------------------------------------------------------
 
-pub same_is : (g h : Settings) {a b : ℕ} → a ≡ bit g.question → b ≡ bit h.question
-    → (eqb g.rows h.rows && (eqb g.columns h.columns && (eqb g.mode h.mode && (eqb a b && eqb g.rules h.rules)))) ≡ same_settings g h
-unfolding same_settings
-same_is g h ea eb = rw (ea, eb)
+same_bits : (a b : Bool) → beq a b ≡ eqb (bit a) (bit b)
+same_bits true true = refl
+same_bits true false = refl
+same_bits false true = refl
+same_bits false false = refl
 
-pub right_is : (B : List ℤ) (d : Desk) {a a' : Bool} {r : ℕ} (x : Bool) → a ≡ a' → r ≡ lawful_refusal B d → (a && (x && eqb r 0)) ≡ (a' && (x && lawful B d))
-right_is B d x ea er = rw (ea, er, law_split B d)
+-- the settings' own equality is the definition's
+pub same_is : (g h : Settings)
+    → (eqb g.rows h.rows && (eqb g.columns h.columns && (eqb g.mode h.mode && (beq g.question h.question && eqb g.rules h.rules)))) ≡ same_settings g h
+unfolding same_settings
+same_is g h = rw (same_bits g.question h.question)
+
+-- a desk that no test of it refuses is lawful
+pub fine_is : (B : List ℤ) (d : Desk) (r : Result Unit Refusal) → found_number r ≡ lawful_refusal B d → is_ok r ≡ lawful B d
+fine_is B d (Ok x) e = ap (λ (n : ℕ). eqb n 0) e ∙ law_split B d
+fine_is B d (Err r) e = sym (ne_eqb (refusal_number r) 0 (never_0 r)) ∙ (ap (λ (n : ℕ). eqb n 0) e ∙ law_split B d)
+
+pub right_is : (B : List ℤ) (d : Desk) {a a' f : Bool} (x : Bool) → a ≡ a' → f ≡ lawful B d → (a && (x && f)) ≡ (a' && (x && lawful B d))
+right_is B d x ea ef = rw (ea, ef)
 
 bit_same : (a b : Bool) → bit a ≡ bit b → b ≡ a
 bit_same true true e = refl
@@ -229,8 +230,8 @@ module _ (B : List ℤ) (es : List ℕ) (k : ℕ) (p : Position) (shown bits wor
     got : d ≡ S.get (j - 1) room
     got = taken_is B k p shown bits work ready n j room s q shown' bits' t
 
-    tested : {b : Bool} → S.right (j * k) d ≡ b → S.right (suc (j - 1) * k) (S.get (j - 1) room) ≡ b
-    tested y = ap (λ (x : ℕ). S.right (x * k) (S.get (j - 1) room)) back ∙ (ap (S.right (j * k)) (sym got) ∙ y)
+    held_right : {b : Bool} → S.right (j * k) d ≡ b → S.right (suc (j - 1) * k) (S.get (j - 1) room) ≡ b
+    held_right y = ap (λ (x : ℕ). S.right (x * k) (S.get (j - 1) room)) back ∙ (ap (S.right (j * k)) (sym got) ∙ y)
 
     pub drag_right : S.right (j * k) d ≡ true → {G : Gliding} → G ≡ glide_of B es k (j * k) n q.settings d (kept_of kept room)
         → record { start = j * k; glided = G } ≡ drag_from B es g n k j (kept_of kept room)
@@ -241,7 +242,7 @@ module _ (B : List ℤ) (es : List ℕ) (k : ℕ) (p : Position) (shown bits wor
         ∙ (ap (λ (x : Settings). glide_of B es k (j * k) n x d (kept_of kept room)) (same_here B k p shown bits work ready n j room s q shown' bits' t y)
         ∙ (glide_of_lem B es d fresh g k (j * k) n (kept_of kept room) ∙ ap (λ (x : Desk). glide_from T S k n (j * k) x (kept_of kept room)) got)))
         ∙ (ap (λ (x : ℕ). record { start = x * k; glided = glide_from T S k n (x * k) (S.get (j - 1) room) (kept_of kept room) }) (sym back)
-        ∙ (sym (slide_at T S k n (j - 1) (kept_of kept room) (tested y)) ∙ ap (λ (x : ℕ). slide_from T S k n x (kept_of kept room)) back))
+        ∙ (sym (slide_at T S k n (j - 1) (kept_of kept room) (held_right y)) ∙ ap (λ (x : ℕ). slide_from T S k n x (kept_of kept room)) back))
 
     pub drag_wrong : S.right (j * k) d ≡ false → (f : Position) (shown'' bits'' : List ℕ) → desk f shown'' bits'' ≡ fresh
         → {G : Gliding} → G ≡ glide_of B es k 0 n f.settings (desk f shown'' bits'') (kept_of 0 room)
@@ -249,7 +250,7 @@ module _ (B : List ℤ) (es : List ℕ) (k : ℕ) (p : Position) (shown bits wor
     unfolding drag_from
     drag_wrong y f shown'' bits'' e q =
         from_start (desk f shown'' bits'') e (kept_of 0 room) q
-        ∙ (sym (slide_not T S k n (j - 1) (kept_of kept room) (tested y)) ∙ ap (λ (x : ℕ). slide_from T S k n x (kept_of kept room)) back)
+        ∙ (sym (slide_not T S k n (j - 1) (kept_of kept room) (held_right y)) ∙ ap (λ (x : ℕ). slide_from T S k n x (kept_of kept room)) back)
 
   -- ---- and which -----------------------------------------------------------------------------------------------------------------------
 

@@ -27,10 +27,7 @@ pub struct Slid {
 fn held(kept: usize, most: usize) -> usize
     ensures { result ≡ pick (ltb most kept) 0 kept }
 {
-    if most < kept {
-        return 0;
-    }
-    kept
+    if most < kept { 0 } else { kept }
 }
 
 // The largest kept not after n, counted in slots.
@@ -38,18 +35,7 @@ fn slot_for(n: usize, k: usize, kept: usize) -> usize
     requires { 1 ≤ k }
     ensures { result ≡ pick (leb kept (n / k)) kept (n / k) }
 {
-    if kept <= n / k {
-        return kept;
-    }
-    n / k
-}
-
-fn same_settings(g: Settings, h: Settings) -> bool
-    ensures { result ≡ same_settings g h }
-{
-    let question = cells::one_if(g.question) == cells::one_if(h.question);
-    let rest = (g.mode == h.mode) & (question & (g.rules == h.rules));
-    (g.rows == h.rows) & ((g.columns == h.columns) & rest)
+    kept.min(n / k)
 }
 
 // What was taken up can be the desk after m events.
@@ -57,9 +43,8 @@ fn is_right(g: Settings, m: usize, p: Position, mines: &[i8], shown: &[u8], bits
     requires { Checkable mines.now shown.now bits.now }
     ensures { result ≡ (same_settings g p.settings && (eqb p.events m && lawful mines.now (desk p shown.now bits.now))) }
 {
-    let s = p.settings;
-    let same = same_settings(g, s);
-    let fine = lawful::lawful_refusal(p, mines, shown, bits) == 0;
+    let same = g == p.settings;
+    let fine = lawful::lawful_refusal(p, mines, shown, bits).is_ok();
     same & ((p.events as usize == m) & fine)
 }
 

@@ -73,6 +73,7 @@ fn main(rt: HostRuntime) -> io::Result<()> {
     let mut bits = streams::large_buffer();
     let mut work = work_room();
     let mut out = text_room();
+    // Counted down by hand: the proof of this loop does not close over a range.
     let mut left = 1000000u32;
     while 0 < left {
         if !play_next(

@@ -65,10 +65,7 @@ pub fn arg<E: Env>(rt: &E, i: usize, text: &mut [u8]) -> usize
     ensures within { result ≤ length text.new }
     ensures front { result ≡ length (take result text.new) }
 {
-    match rt.arg(i, text) {
-        Ok(n) => n,
-        Err(_) => 0,
-    }
+    rt.arg(i, text).unwrap_or(0)
 }
 
 // How many arguments there are, the program's name among them.

@@ -1,6 +1,6 @@
 -- A step's line is that of its outcome; and what the pair leaves.
-use mathlib.Core.Path.{◌≡◌, ap, ap₂, ◌∙◌}
-use mathlib.Core.Bool.{Bool, ◌&&◌, ◌||◌}
+use mathlib.Core.Path.{◌≡◌, refl, ap, ap₂, ◌∙◌}
+use mathlib.Core.Bool.{Bool, true, false, ◌&&◌, ◌||◌}
 use mathlib.Core.List.{List}
 use Prim.Native.Nat.{ℕ, ◌<◌, ◌≤◌}
 use native.Mathlib.Omega.{arith}
@@ -13,6 +13,7 @@ use Rattle.rules.specs.declared.Position.{Position}
 use Rattle.rules.specs.Clicks.{Desk, desk, on}
 use Rattle.rules.specs.Mouse.{both_down, resolved}
 use Rattle.rules.specs.Step.{mouse}
+use Rattle.rules.specs.Words.{pick}
 use Rattle.rules.specs.Calls.{Outcome, outcome, resolve_of, step_of}
 use Rattle.cells.proofs.Words.{pick_both}
 use Rattle.board.specs.Pair.{pair_of}
@@ -21,16 +22,31 @@ use Rattle.writing.specs.Put.{PutWithin}
 use Rattle.writing.proofs.Putting.{within, put_as, put_front}
 use Rattle.packed.specs.Packed.{position_in, signed_all}
 use Rattle.packed.specs.Line.{outcome_line, outcome_room, line_after}
-use Rattle.telling.specs.Told.{called_by, step_line}
+use Rattle.telling.specs.Told.{call_at, called, called_by, step_line}
+use Rattle.telling.specs.declared.Call.{Call}
+use Rattle.telling.specs.declared.Call.TheVariants.{Resolve, Step, Both}
+
+-- the call that a number means is the one that it names
+call_is : (n : ℕ) (B : List ℤ) (code r c : ℕ) (d : Desk) (work : List ℕ) → called (call_at n) B code r c d work ≡ called_by n B code r c d work
+unfolding call_at
+call_is n B code r c d work = go (eqb n 1) (eqb n 2)
+  where
+    go : (s t : Bool) → called (pick s Resolve (pick t Step Both)) B code r c d work
+        ≡ pick s (outcome (resolve_of B code r c d) d.shown d.bits work) (pick t (step_of B code r c d work) (pair_of B code r c d work))
+    go true t = refl
+    go false true = refl
+    go false false = refl
 
 -- the step that was played, of the board that was signed and the position that was read, is the packed one
-module _ (head bytes shown bits work : List ℕ) {B : List ℤ} {p : Position} {a : Answer} {shown' bits' work' : List ℕ}
+module _ (head bytes shown bits work : List ℕ) {B : List ℤ} {p : Position} {a : Answer} {shown' bits' work' : List ℕ} {k : Call} (meant : k ≡ call_at (get_or head 55 0))
     (signed : B ≡ signed_all bytes) (read : p ≡ position_in head)
-    (played : outcome a shown' bits' work' ≡ called_by (get_or head 55 0) B (get_or head 51 0) (get_or head 52 0) (get_or head 53 0) (desk p shown bits) work) where
+    (played : outcome a shown' bits' work' ≡ called k B (get_or head 51 0) (get_or head 52 0) (get_or head 53 0) (desk p shown bits) work) where
   line_is : outcome_line a shown' bits' ≡ step_line head bytes shown bits work
   line_is =
       ap line_after
       (played
+      ∙ ap (λ (x : Call). called x B (get_or head 51 0) (get_or head 52 0) (get_or head 53 0) (desk p shown bits) work) meant
+      ∙ call_is (get_or head 55 0) B (get_or head 51 0) (get_or head 52 0) (get_or head 53 0) (desk p shown bits) work
       ∙ ap (λ (M : List ℤ). called_by (get_or head 55 0) M (get_or head 51 0) (get_or head 52 0) (get_or head 53 0) (desk p shown bits) work) signed
       ∙ ap (λ (q : Position). called_by (get_or head 55 0) (signed_all bytes) (get_or head 51 0) (get_or head 52 0) (get_or head 53 0) (desk q shown bits) work) read)
 
@@ -75,15 +91,3 @@ module _ (B : List ℤ) (code r c : ℕ) (d : Desk) (a : Answer) (e : a ≡ reso
 
   pub pair_played : (o : Outcome) (work : List ℕ) → a.number ≡ 0 → o ≡ step_of B a.value r c (on d a.position) work → o ≡ pair_of B code r c d work
   pair_played o work z s = rw (← e, eq-eqb a.number 0 z) s
-
--- ---- the call ----------------------------------------------------------------------------------------------------------------------------
-
-module _ (which : ℕ) (B : List ℤ) (code r c : ℕ) (d : Desk) (work : List ℕ) where
-  pub called_resolve : (a : Answer) → which ≡ 1 → a ≡ resolve_of B code r c d → outcome a d.shown d.bits work ≡ called_by which B code r c d work
-  called_resolve a e h = rw (eq-eqb which 1 e, h)
-
-  pub called_step : (o : Outcome) → (which ≡ 1 → ⊥) → which ≡ 2 → o ≡ step_of B code r c d work → o ≡ called_by which B code r c d work
-  called_step o n e h = rw (ne_eqb which 1 n, eq-eqb which 2 e) h
-
-  pub called_pair : (o : Outcome) → (which ≡ 1 → ⊥) → (which ≡ 2 → ⊥) → o ≡ pair_of B code r c d work → o ≡ called_by which B code r c d work
-  called_pair o n m h = rw (ne_eqb which 1 n, ne_eqb which 2 m) h

@@ -10,7 +10,7 @@ ghost use Rattle.packed.specs.Line.{outcome_room};
 ghost use Rattle.rules.specs.Clicks.{desk};
 ghost use Rattle.rules.specs.Calls.{outcome};
 ghost use Rattle.board.specs.Pair.{pair_of};
-ghost use Rattle.telling.specs.Told.{called_by, step_line, Tells, TellsPart};
+ghost use Rattle.telling.specs.Told.{call_at, called, step_line, Tells, TellsPart};
 
 use packed::Head;
 use rules::{Answer, Position};
@@ -34,10 +34,9 @@ fn pair(
     if a.number != 0 {
         return a;
     }
-    let q = a.position;
     let plain = a.value as u8;
     board::step(
-        q,
+        a.position,
         plain,
         row,
         column,
@@ -48,9 +47,30 @@ fn pair(
     )
 }
 
-// The call that a step is packed for: 1 resolve alone, 2 the plain step alone, any other both.
-fn call(
-    which: u8,
+// What a step is packed for: resolve alone, the plain step alone, or both.
+#[derive(Clone, Copy)]
+enum Call {
+    Resolve,
+    Step,
+    Both,
+}
+
+impl From<u8> for Call {
+    ghost from_gives = { λ n k. k ≡ call_at n };
+
+    #[tactic(auto, unfolding(crate::specs::Told::call_at))]
+    fn from(n: u8) -> Call {
+        match n {
+            1 => Call::Resolve,
+            2 => Call::Step,
+            _ => Call::Both,
+        }
+    }
+}
+
+// The call that a step is packed for.
+fn play(
+    which: Call,
     p: Position,
     code: u8,
     row: u8,
@@ -60,13 +80,11 @@ fn call(
     bits: &mut [u8],
     work: &mut [u16],
 ) -> Answer
-    ensures { outcome result shown.new bits.new work.new ≡ called_by which mines.now code row column (desk p shown.old bits.old) work.old }
+    ensures { outcome result shown.new bits.new work.new ≡ called which mines.now code row column (desk p shown.old bits.old) work.old }
 {
-    if which == 1 {
-        return board::resolve(p, code, row, column, mines, &*shown, &*bits);
-    }
-    if which == 2 {
-        return board::step(
+    match which {
+        Call::Resolve => board::resolve(p, code, row, column, mines, &*shown, &*bits),
+        Call::Step => board::step(
             p,
             code,
             row,
@@ -75,18 +93,18 @@ fn call(
             &mut *shown,
             &mut *bits,
             &mut *work,
-        );
+        ),
+        Call::Both => pair(
+            p,
+            code,
+            row,
+            column,
+            mines,
+            &mut *shown,
+            &mut *bits,
+            &mut *work,
+        ),
     }
-    pair(
-        p,
-        code,
-        row,
-        column,
-        mines,
-        &mut *shown,
-        &mut *bits,
-        &mut *work,
-    )
 }
 
 // The step of a head and of what is lent, its line from the front of `out`; the answer is how many bytes the line has.
@@ -106,8 +124,8 @@ fn tell_step(
 {
     packed::sign_all(bytes, &mut *mines);
     let p = packed::position_in(head);
-    let a = call(
-        head[55],
+    let a = play(
+        Call::from(head[55]),
         p,
         head[51],
         head[52],

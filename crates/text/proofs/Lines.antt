@@ -16,5 +16,8 @@ row_parts cells e h =
     rw (e, take_all (length cells - 1) (drop 1 cells) (simp length-drop (omega arith)))
     (ap line_of (drop-cons cells 0 0 (omega arith)) ∙ line_parts (get_or cells 0 0) (drop 1 cells))
 
-pub game_as : (s : Settings) {q : ℕ} → q ≡ bit s.question → word_line word_game (s.rows ∷ s.columns ∷ s.mode ∷ q ∷ []) ≡ game_line s
-game_as s e = ap (λ (n : ℕ). word_line word_game (s.rows ∷ s.columns ∷ s.mode ∷ n ∷ [])) e
+pub game_as : (s : Settings) {r c m q : ℕ} → r ≡ s.rows → c ≡ s.columns → m ≡ s.mode → q ≡ bit s.question → word_line word_game (r ∷ c ∷ m ∷ q ∷ []) ≡ game_line s
+game_as s hr hc hm hq = rw (hr, hc, hm, hq)
+
+pub event_as : {n a g m n' a' g' m' : ℕ} → n' ≡ n → a' ≡ a → g' ≡ g → m' ≡ m → line_of (n' ∷ a' ∷ g' ∷ m' ∷ []) ≡ line_of (n ∷ a ∷ g ∷ m ∷ [])
+event_as hn ha hg hm = rw (hn, ha, hg, hm)

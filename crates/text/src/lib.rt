@@ -15,7 +15,7 @@ fn put_row(out: &mut [u8], at: usize, cells: &[u8]) -> usize
     requires { (1 ≤ length cells.now) × Room (line_of cells.now) at out.old }
     ensures { Put (line_of cells.now) at out.old out.new result }
 {
-    let first = writing::put_decimal(out, at, writing::wide(cells[0]));
+    let first = writing::put_decimal(out, at, u32::from(cells[0]));
     let last = writing::put_cells(out, first, &cells[1..]);
     writing::put_byte(out, last, b'\n')
 }
@@ -25,10 +25,10 @@ pub fn put_game_line(out: &mut [u8], at: usize, settings: Settings) -> usize
     requires { at + 21 ≤ length out.old }
     ensures { PutWithin 21 (game_line settings) at out.old out.new result }
 {
-    let rows = settings.rows as u32;
-    let columns = settings.columns as u32;
-    let mode = settings.mode as u32;
-    let question = cells::one_if(settings.question);
+    let rows = u32::from(settings.rows);
+    let columns = u32::from(settings.columns);
+    let mode = u32::from(settings.mode);
+    let question = u32::from(settings.question);
     let ns = [rows, columns, mode, question];
     writing::put_word_line(out, at, b"game", &ns)
 }
@@ -45,8 +45,8 @@ pub fn put_event_line(
     requires { at + 20 ≤ length out.old }
     ensures { PutWithin 20 (line_of (number ∷ answer ∷ game ∷ mouse ∷ [])) at out.old out.new result }
 {
-    let ns = [answer as u32, game as u32, mouse as u32];
-    writing::put_line(out, at, number as u32, &ns)
+    let ns = [u32::from(answer), u32::from(game), u32::from(mouse)];
+    writing::put_line(out, at, u32::from(number), &ns)
 }
 
 // The line of the counts.
@@ -85,13 +85,8 @@ pub fn put_rows(out: &mut [u8], at: usize, rows: usize, columns: usize, shown: &
     ensures { PutWithin (4 * (rows * columns)) (row_lines rows columns shown.now) at out.old out.new result }
 {
     let mut o = at;
-    let mut from = 0;
-    let mut left = rows;
-    while 0 < left {
-        let end = from + columns;
-        o = put_row(out, o, &shown[from..end]);
-        from = end;
-        left -= 1;
+    for row in shown[..rows * columns].chunks_exact(columns) {
+        o = put_row(out, o, row);
     }
     o
 }
@@ -101,8 +96,8 @@ pub fn put_end(out: &mut [u8], at: usize, p: Position, total: u32, left: u32, sh
     requires { RowsFit p.settings.rows p.settings.columns shown.now (at + 131) out.old }
     ensures { PutWithin (131 + 4 * (p.settings.rows * p.settings.columns)) (end_text p total left shown.now) at out.old out.new result }
 {
-    let rows = p.settings.rows as usize;
-    let columns = p.settings.columns as usize;
+    let rows = usize::from(p.settings.rows);
+    let columns = usize::from(p.settings.columns);
     let bv = put_counts(out, at, p);
     let board = put_bv(out, bv, total, left);
     put_rows(out, board, rows, columns, shown)
@@ -113,7 +108,7 @@ pub fn put_refused(out: &mut [u8], at: usize, number: u16, place: usize) -> usiz
     requires { (place < 4294967296) × (at + 33 ≤ length out.old) }
     ensures { PutWithin 33 (refused_text number place) at out.old out.new result }
 {
-    let numbers = [number as u32];
+    let numbers = [u32::from(number)];
     let places = [place as u32];
     let first = writing::put_bytes(out, at, b"refused");
     let next = writing::put_spaced(out, first, &numbers);

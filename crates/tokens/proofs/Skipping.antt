@@ -5,7 +5,7 @@ use mathlib.Core.List.{List, [], ◌∷◌}
 use Prim.Native.Nat.{ℕ, ◌+◌, ◌<◌, ◌≤◌}
 use native.Mathlib.Numerals.{add-one}
 use lib.ListN.{length, get_or, drop, drop_of_length-le}
-use lib.Seq.{drop-cons}
+use lib.Seq.{drop-cons, drop-length}
 use Rattle.rules.specs.Picture.{is_gap, runs_on, skipped}
 
 pub skipped_pass : (hash inside : Bool) (b : ℕ) (s : List ℕ) → (inside || is_gap hash b) ≡ true → skipped hash inside (b ∷ s) ≡ skipped hash (runs_on hash inside b) s
@@ -38,7 +38,8 @@ module _ (s : List ℕ) (hash inside : Bool) (at : ℕ) where
       from_place s at h ∙ sym (skipped_stop hash inside (get_or s at 0) (drop (at + 1) s) (ap (λ (b : Bool). inside || b) (sym g) ∙ e))
       ∙ ap (λ (l : List ℕ). skipped hash inside l) (sym (from_place s at h)) ∙ i
 
-  pub skip_ends : {total : List ℕ} → length s ≤ at → skipped hash inside (drop at s) ≡ total → drop at s ≡ total
+  -- no byte is left
+  pub skip_ends : {total : List ℕ} → length s ≤ at → skipped hash inside (drop at s) ≡ total → drop (length s) s ≡ total
   skip_ends h i =
       let e : drop at s ≡ [] = drop_of_length-le s {i = at} h in
-      e ∙ sym (skipped_none hash inside) ∙ ap (λ (l : List ℕ). skipped hash inside l) (sym e) ∙ i
+      drop-length s ∙ sym (skipped_none hash inside) ∙ ap (λ (l : List ℕ). skipped hash inside l) (sym e) ∙ i

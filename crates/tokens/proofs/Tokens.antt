@@ -6,7 +6,11 @@ use Prim.Native.Nat.{ℕ, suc, ◌+◌, ◌-◌, ◌*◌, ◌<◌, ◌≤◌}
 use native.Mathlib.Omega.{arith}
 use lib.ListN.{length, get_or, drop, drop_of_length-le}
 use lib.Seq.{drop-length}
+use Rattle.std.specs.Prelude.{Result, Ok, Err}
+use Rattle.rules.specs.declared.Refusal.{Refusal}
+use Rattle.rules.specs.declared.Refusal.TheVariants.{End}
 use Rattle.rules.specs.Words.{pick}
+use Rattle.rules.specs.Refusals.{refusal_number}
 use Rattle.rules.specs.Picture.{Token, is_digit, is_gap, skipped, number_from, token_at, token_of, due}
 use Rattle.rules.specs.Picture.Token.{end, none, number}
 use Rattle.tokens.specs.declared.Number.{Number}
@@ -42,18 +46,6 @@ token_number hash b s e = simp e
 
 -- ---- a number that is due ----------------------------------------------------------------------------------------------------------------
 
--- a token that is no number answers, whatever follows
-pub due_refused : (n : ℕ) (t : Token) (rest : ℕ) → (due n t 0 ≡ 0 → ⊥) → due n t rest ≡ due n t 0
-due_refused n end rest h = refl
-due_refused n none rest h = refl
-due_refused n (number v s) rest h = absurd (h refl)
-
--- a number is passed over
-pub due_passed : (n : ℕ) (t : Token) (rest : ℕ) → due (suc n) t 0 ≡ 0 → due (suc n) t rest ≡ rest
-due_passed n end rest e = absurd (omega arith)
-due_passed n none rest e = absurd (omega arith)
-due_passed n (number v s) rest e = refl
-
 -- a chain of refusals that gives 0 passed its number, and the rest gives 0
 pub due_there : (n : ℕ) (t : Token) (rest : ℕ) → due (suc n) t rest ≡ 0 → (due (suc n) t 0 ≡ 0) × (rest ≡ 0)
 due_there n end rest e = absurd (omega arith)
@@ -62,20 +54,21 @@ due_there n (number v s) rest e = (refl, e)
 
 -- ---- tokens as they are handed back ------------------------------------------------------------------------------------------------------
 
-taken_end : (s : List ℕ) (fault : ℕ) → Taken s fault end (record { fault = 64; value = 0; next = length s })
-unfolding counted
-taken_end s fault = record { number = refl; value = refl; rest = drop-length s }
+abbrev counted_at : ℕ → ℕ → Result Number Refusal
+counted_at value at = Ok (record { value = value; next = at })
 
-taken_none : (s : List ℕ) (fault : ℕ) → Taken s fault none (record { fault = fault; value = 0; next = length s })
-unfolding counted
-taken_none s fault = record { number = refl; value = refl; rest = drop-length s }
+taken_end : (s : List ℕ) (fault : ℕ) → Taken s fault end (Err End)
+taken_end s fault rest = refl
 
-taken_number : (s : List ℕ) (fault v value at : ℕ) → value ≡ counted v → Taken s fault (number v (drop at s)) (record { fault = 0; value = value; next = at })
-taken_number s fault v value at e = record { number = refl; value = e; rest = refl }
+taken_none : (s : List ℕ) (fault : Refusal) → Taken s (refusal_number fault) none (Err fault)
+taken_none s fault rest = refl
 
-taken_by : (s : List ℕ) (fault v value at : ℕ) (ends : Bool) → value ≡ counted v
-    → Taken s fault (pick ends (number v (drop at s)) none) (ended_at (length s) at ends value fault)
-taken_by s fault v value at true e = taken_number s fault v value at e
+taken_number : (s : List ℕ) (fault v value at : ℕ) → value ≡ counted v → Taken s fault (number v (drop at s)) (counted_at value at)
+taken_number s fault v value at e = record { there = λ f rest. refl; value = e; rest = refl }
+
+taken_by : (s : List ℕ) (fault : Refusal) (v value at : ℕ) (ends : Bool) → value ≡ counted v
+    → Taken s (refusal_number fault) (pick ends (number v (drop at s)) none) (ended_at at ends value fault)
+taken_by s fault v value at true e = taken_number s (refusal_number fault) v value at e
 taken_by s fault v value at false e = taken_none s fault
 
 -- ---- the digits --------------------------------------------------------------------------------------------------------------------------
@@ -101,54 +94,46 @@ module _ {s : List ℕ} {hash : Bool} {total : Token} {at value : ℕ} (c : Coun
             ∙ ap (λ (l : List ℕ). number_from hash c.exact l) (sym (from_place s at h)) ∙ c.same;
       }
 
-  pub counting_stops : (fault : ℕ) {r : Number} → at < length s → is_digit (get_or s at 0) ≡ false → r ≡ ended_at (length s) at (is_gap hash (get_or s at 0)) value fault
-      → Taken s fault total r
+  pub counting_stops : (fault : Refusal) {r : Result Number Refusal} → at < length s → is_digit (get_or s at 0) ≡ false → r ≡ ended_at at (is_gap hash (get_or s at 0)) value fault
+      → Taken s (refusal_number fault) total r
   counting_stops fault {r} h d e =
       let p = from_place s at h in
       let t : pick (is_gap hash (get_or s at 0)) (number c.exact (drop at s)) none ≡ total =
       ap (λ (l : List ℕ). pick (is_gap hash (get_or s at 0)) (number c.exact l) none) p
       ∙ sym (number_stop hash c.exact (get_or s at 0) (drop (at + 1) s) d)
       ∙ ap (λ (l : List ℕ). number_from hash c.exact l) (sym p) ∙ c.same in
-      subst (λ (k : Token). Taken s fault k r) t
-      (subst (λ (n : Number). Taken s fault (pick (is_gap hash (get_or s at 0)) (number c.exact (drop at s)) none) n) (sym e)
+      subst (λ (k : Token). Taken s (refusal_number fault) k r) t
+      (subst (λ (n : Result Number Refusal). Taken s (refusal_number fault) (pick (is_gap hash (get_or s at 0)) (number c.exact (drop at s)) none) n) (sym e)
       (taken_by s fault c.exact value at (is_gap hash (get_or s at 0)) c.counts))
 
-  pub counting_ends : (fault : ℕ) → length s ≤ at → Taken s fault total (record { fault = 0; value = value; next = at })
+  -- no byte is left
+  pub counting_ends : (fault : ℕ) → length s ≤ at → Taken s fault total (counted_at value (length s))
   counting_ends fault h =
-      let p : drop at s ≡ [] = drop_of_length-le s {i = at} h in
-      let t : number c.exact (drop at s) ≡ total =
-      ap (λ (l : List ℕ). number c.exact l) p ∙ sym (number_end hash c.exact)
-      ∙ ap (λ (l : List ℕ). number_from hash c.exact l) (sym p) ∙ c.same in
-      subst (λ (k : Token). Taken s fault k (record { fault = 0; value = value; next = at })) t (taken_number s fault c.exact value at c.counts)
-
--- ---- the end of a number -----------------------------------------------------------------------------------------------------------------
-
-module _ (long at value fault : ℕ) {ends test : Bool} (e : test ≡ ends) where
-  pub ended_yes : test ≡ true → record { fault = 0; value = value; next = at } ≡ ended_at long at ends value fault
-  ended_yes y = ap (λ (b : Bool). ended_at long at b value fault) (sym y ∙ e)
-
-  pub ended_no : test ≡ false → record { fault = fault; value = 0; next = long } ≡ ended_at long at ends value fault
-  ended_no n = ap (λ (b : Bool). ended_at long at b value fault) (sym n ∙ e)
+      let t : number c.exact (drop (length s) s) ≡ total =
+      ap (λ (l : List ℕ). number c.exact l) (drop-length s) ∙ sym (number_end hash c.exact)
+      ∙ ap (λ (l : List ℕ). number_from hash c.exact l) (sym (drop_of_length-le s {i = at} h)) ∙ c.same in
+      subst (λ (k : Token). Taken s fault k (counted_at value (length s))) t (taken_number s fault c.exact value (length s) c.counts)
 
 -- ---- a token at the place that skipping gave ---------------------------------------------------------------------------------------------
 
-module _ (s : List ℕ) (before after : Bool) (from at : ℕ) (skips : drop at s ≡ skipped before false (drop from s)) (fault : ℕ) where
+module _ (s : List ℕ) (before after : Bool) (from at : ℕ) (skips : drop at s ≡ skipped before false (drop from s)) where
   -- what holds of the token at the place holds of the token to come
-  taken_at : {t : Token} {r : Number} → token_at after (drop at s) ≡ t → Taken s fault t r → Taken s fault (token_of before after (drop from s)) r
+  taken_at : (fault : ℕ) {t : Token} (r : Result Number Refusal) → token_at after (drop at s) ≡ t → Taken s fault t r → Taken s fault (token_of before after (drop from s)) r
   unfolding token_of
-  taken_at {t} {r} e k = subst (λ (x : Token). Taken s fault x r) (sym (ap (token_at after) (sym skips) ∙ e)) k
+  taken_at fault {t} r e k = subst (λ (x : Token). Taken s fault x r) (sym (ap (token_at after) (sym skips) ∙ e)) k
 
-  pub taken_at_end : length s ≤ at → Taken s fault (token_of before after (drop from s)) (record { fault = 64; value = 0; next = length s })
-  taken_at_end h = taken_at (ap (token_at after) (drop_of_length-le s {i = at} h) ∙ token_end after) (taken_end s fault)
+  pub taken_at_end : (fault : ℕ) → length s ≤ at → Taken s fault (token_of before after (drop from s)) (Err End)
+  taken_at_end fault h = taken_at fault (Err End) (ap (token_at after) (drop_of_length-le s {i = at} h) ∙ token_end after) (taken_end s fault)
 
-  pub taken_at_none : at < length s → is_digit (get_or s at 0) ≡ false
-      → Taken s fault (token_of before after (drop from s)) (record { fault = fault; value = 0; next = length s })
-  taken_at_none h d =
-      taken_at (ap (token_at after) (from_place s at h) ∙ token_none after (get_or s at 0) (drop (at + 1) s) d) (taken_none s fault)
+  pub taken_at_none : (fault : Refusal) → at < length s → is_digit (get_or s at 0) ≡ false
+      → Taken s (refusal_number fault) (token_of before after (drop from s)) (Err fault)
+  taken_at_none fault h d =
+      taken_at (refusal_number fault) (Err fault)
+      (ap (token_at after) (from_place s at h) ∙ token_none after (get_or s at 0) (drop (at + 1) s) d) (taken_none s fault)
 
-  pub taken_at_number : {r : Number} → at < length s → is_digit (get_or s at 0) ≡ true → Taken s fault (number_from after 0 (drop at s)) r
+  pub taken_at_number : (fault : ℕ) (r : Result Number Refusal) → at < length s → is_digit (get_or s at 0) ≡ true → Taken s fault (number_from after 0 (drop at s)) r
       → Taken s fault (token_of before after (drop from s)) r
-  taken_at_number h d k =
-      taken_at
+  taken_at_number fault r h d k =
+      taken_at fault r
       (ap (token_at after) (from_place s at h) ∙ token_number after (get_or s at 0) (drop (at + 1) s) d ∙ ap (number_from after 0) (sym (from_place s at h)))
       k

@@ -2,48 +2,53 @@
 // The contracts cite rules/specs/Picture.antt; specs/Taken.antt has a token by its places.
 #![tactic(auto)]
 
-ghost use Rattle.std.specs.Prelude.{◌≡◌, true, false, ◌+◌, ◌-◌, ◌*◌, length, drop};
+ghost use Rattle.std.specs.Prelude.{◌≡◌, true, false, ◌+◌, ◌-◌, ◌*◌, drop};
 ghost use Rattle.rules.specs.Picture.{is_space, is_digit, is_gap, runs_on, skipped, number_from, token_of};
+ghost use Rattle.rules.specs.Refusals.{refusal_number};
 ghost use Rattle.tokens.specs.Taken.{counted, ended_at, Taken};
 
-// What is found where a number is due: its fault, 0 for none, its value as it is counted, and the place after it.
+use rules::Refusal;
+
+// A number that was due: its value as it is counted, and the place after it.
 #[derive(Clone, Copy)]
 pub struct Number {
-    pub fault: u16,
     pub value: u8,
     pub next: usize,
 }
 
 // ---- bytes -----------------------------------------------------------------------------------------------------------------------------
 
-// Space, tab, CR, LF.
+#[tactic(auto, unfolding(rules::specs::Picture::is_space))]
 fn is_space(b: u8) -> bool
     ensures { result ≡ is_space b }
 {
-    (b == 32) | ((b == 9) | ((b == 13) | (b == 10)))
+    matches!(b, b' ' | b'\t' | b'\r' | b'\n')
 }
 
+#[tactic(auto, unfolding(rules::specs::Picture::is_digit))]
 fn is_digit(b: u8) -> bool
     ensures { result ≡ is_digit b }
 {
-    (48 <= b) & (b <= 57)
+    b.is_ascii_digit()
 }
 
 // White space or, where it counts, `#`.
+#[tactic(auto, unfolding(rules::specs::Picture::is_gap))]
 pub fn is_gap(hash: bool, b: u8) -> bool
     ensures { result ≡ is_gap hash b }
 {
-    is_space(b) | (hash & (b == 35))
+    is_space(b) | (hash & (b == b'#'))
 }
 
 // Does a comment run on after this byte?
+#[tactic(auto, unfolding(rules::specs::Picture::runs_on))]
 fn runs_on(hash: bool, inside: bool, b: u8) -> bool
     ensures { result ≡ runs_on hash inside b }
 {
     if inside {
-        return !((b == 10) | (b == 13));
+        return !matches!(b, b'\n' | b'\r');
     }
-    hash & (b == 35)
+    hash & (b == b'#')
 }
 
 // ---- tokens ----------------------------------------------------------------------------------------------------------------------------
@@ -52,18 +57,16 @@ fn runs_on(hash: bool, inside: bool, b: u8) -> bool
 pub fn skip(s: &[u8], from: usize, hash: bool) -> usize
     ensures { drop result s.now ≡ skipped hash false (drop from s.now) }
 {
-    let mut at = from;
     let mut inside = false;
-    while at < s.len() {
+    for at in from..s.len() {
         let b = s[at];
         let passed = inside | is_gap(hash, b);
         if !passed {
             return at;
         }
         inside = runs_on(hash, inside, b);
-        at += 1;
     }
-    at
+    s.len()
 }
 
 // One digit more. From 100 on the answer can no longer change.
@@ -74,66 +77,51 @@ fn add_digit(value: u8, b: u8) -> u8
     if 9 < value {
         return 100;
     }
-    value * 10 + (b - 48)
+    value * 10 + (b - b'0')
 }
 
 // A number ends at this byte, which is no digit, or there is none.
-fn ended(s: &[u8], at: usize, hash: bool, b: u8, value: u8, fault: u16) -> Number
-    ensures { result ≡ ended_at (length s.now) at (is_gap hash b) value fault }
+fn ended(at: usize, hash: bool, b: u8, value: u8, fault: Refusal) -> Result<Number, Refusal>
+    ensures { result ≡ ended_at at (is_gap hash b) value fault }
 {
     if is_gap(hash, b) {
-        return Number {
-            fault: 0,
-            value,
-            next: at,
-        };
+        return Ok(Number { value, next: at });
     }
-    Number {
-        fault,
-        value: 0,
-        next: s.len(),
-    }
+    Err(fault)
 }
 
 // The number whose digits stand from a place on.
-fn number_from(s: &[u8], from: usize, hash: bool, fault: u16) -> Number
-    ensures { Taken s.now fault (number_from hash 0 (drop from s.now)) result }
+fn number_from(s: &[u8], from: usize, hash: bool, fault: Refusal) -> Result<Number, Refusal>
+    ensures { Taken s.now (refusal_number fault) (number_from hash 0 (drop from s.now)) result }
 {
-    let mut at = from;
     let mut value = 0u8;
-    while at < s.len() {
+    for at in from..s.len() {
         let b = s[at];
         if !is_digit(b) {
-            return ended(s, at, hash, b, value, fault);
+            return ended(at, hash, b, value, fault);
         }
         value = add_digit(value, b);
-        at += 1;
     }
-    Number {
-        fault: 0,
-        value,
-        next: at,
-    }
+    let next = s.len();
+    Ok(Number { value, next })
 }
 
-// The next token: 64 where no byte is left, `fault` where there is no number.
-pub fn token(s: &[u8], from: usize, before: bool, after: bool, fault: u16) -> Number
-    ensures { Taken s.now fault (token_of before after (drop from s.now)) result }
+// The next token, where a number is due: the bytes have ended, or what is there is none and refused with `fault`.
+pub fn token(
+    s: &[u8],
+    from: usize,
+    before: bool,
+    after: bool,
+    fault: Refusal,
+) -> Result<Number, Refusal>
+    ensures { Taken s.now (refusal_number fault) (token_of before after (drop from s.now)) result }
 {
     let at = skip(s, from, before);
     if s.len() <= at {
-        return Number {
-            fault: 64,
-            value: 0,
-            next: s.len(),
-        };
+        return Err(Refusal::End);
     }
     if !is_digit(s[at]) {
-        return Number {
-            fault,
-            value: 0,
-            next: s.len(),
-        };
+        return Err(fault);
     }
     number_from(s, at, after, fault)
 }

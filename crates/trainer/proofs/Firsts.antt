@@ -4,12 +4,50 @@ use mathlib.Core.Bool.{Bool, true, false, not}
 use Prim.Native.Nat.{ℕ, ◌<◌, ◌≤◌}
 use native.Mathlib.Omega.{arith}
 use native.Mathlib.Decide.{dec_lt}
-use borrow.Author.Tests.{lt-ltb, le-ltb, not-true, not-false}
+use borrow.Author.Tests.{lt-ltb, le-ltb, ltb-true, ltb-false, not-true, not-false}
 use lib.Dec.{ltb}
-use Rattle.rules.specs.Words.{count, every}
+use Rattle.std.specs.Prelude.{Some, None}
+use Rattle.std.specs.Option.{IsSome, is_some}
+use Rattle.rules.specs.Words.{pick, count, every}
 use Rattle.cells.proofs.Words.{every_at, every_all, count_some, count_zero}
 use Rattle.cells.proofs.Firsts.{first_none, first_at, first_fails, first_le}
 use Rattle.rules.specs.Trainer.{first}
+use Rattle.trainer.specs.Found.{found}
+
+-- ---- a place that is found ---------------------------------------------------------------------------------------------------------------
+
+module _ (n k : ℕ) where
+  pub found_at : (i : ℕ) → i ≡ k → i < n → Some i ≡ found n k
+  found_at i e l = simp (lt-ltb k n (omega arith)) (ap (λ (x : ℕ). Some x) e)
+
+  pub found_none : n ≤ k → None ≡ found n k
+  found_none h = simp (le-ltb k n h)
+
+  pub some_found : (i : ℕ) → Some i ≡ found n k → (i ≡ k) × (i < n)
+  some_found i e = go (ltb k n) refl e
+    where
+      go : (b : Bool) → ltb k n ≡ b → Some i ≡ pick b (Some k) None → (i ≡ k) × (i < n)
+      go true d e = let l = ltb-true k n d in let q : i ≡ k = cc in (q, omega arith)
+      go false d e = cc
+
+  pub none_found : None ≡ found n k → n ≤ k
+  none_found e = go (ltb k n) refl e
+    where
+      go : (b : Bool) → ltb k n ≡ b → None ≡ pick b (Some k) None → n ≤ k
+      go true d e = cc
+      go false d e = ltb-false k n d
+
+  pub found_some : is_some (found n k) ≡ ltb k n
+  found_some = go (ltb k n)
+    where
+      go : (b : Bool) → is_some (pick b (Some k) None) ≡ b
+      go true = refl
+      go false = refl
+
+  pub found_there : k < n → IsSome (found n k)
+  found_there h = simp (lt-ltb k n h)
+
+-- ---- the first ---------------------------------------------------------------------------------------------------------------------------
 
 -- as the scan tests it
 abbrev pub misses : (ℕ → Bool) → ℕ → Bool

@@ -6,8 +6,9 @@ use Prim.Native.Nat.{ℕ, ◌+◌, ◌*◌, ◌/◌, ◌%◌, ◌<◌, ◌≤◌
 use native.Mathlib.Omega.{arith}
 use native.Mathlib.Decide.{dec_lt}
 use borrow.Author.Tests.{lt-ltb, le-ltb, ltb-true, lt-leb, le-leb, eq-eqb, ne_eqb, eqb-true}
-use lib.Dec.{ltb, eqb, leb}
+use lib.Dec.{ltb, eqb}
 use lib.ListN.{length, get_or, get_or-eq_default}
+use Rattle.std.specs.Prelude.{Some, None}
 use Rattle.rules.specs.Words.{count, every}
 use Rattle.rules.specs.Grid.{ninth, cell_before, neighbour, around}
 use Rattle.rules.specs.Clicks.{flag_at}
@@ -20,7 +21,8 @@ use Rattle.rules.specs.declared.Hint.{Hint}
 use Rattle.rules.specs.declared.Hint.TheVariants.{Cell, Nothing, Refused}
 use Rattle.rules.specs.Trainer.{first, justifies, offered, offered_cell, justifier, cell_by, hint_at, offer_of, hint_by, hint_of}
 use Rattle.cells.proofs.Firsts.{first_none}
-use Rattle.trainer.proofs.Firsts.{misses, first_is, first_some}
+use Rattle.trainer.specs.Found.{found}
+use Rattle.trainer.proofs.Firsts.{misses, first_is, first_some, some_found, none_found, found_none}
 
 -- ---- a number ----------------------------------------------------------------------------------------------------------------------------
 
@@ -58,16 +60,16 @@ module _ (R C : ℕ) (shown : List ℕ) (i : ℕ) where
   unfolding offered
   offered_shut h = simp (ne_eqb _ _ h)
 
-  pub offered_by : {k : ℕ} → get_or shown i 0 ≡ 10 → k ≡ justifier R C shown i → ltb k 8 ≡ offered R C shown i
+  pub offered_by : get_or shown i 0 ≡ 10 → ltb (justifier R C shown i) 8 ≡ offered R C shown i
   unfolding offered around
-  offered_by h e = ap (λ (x : ℕ). ltb x 8) e ∙ first_some beside 8 ∙ sym (ap (λ (b : Bool). b && ltb 0 (count beside 8)) (eq-eqb _ _ h))
+  offered_by h = first_some beside 8 ∙ sym (ap (λ (b : Bool). b && ltb 0 (count beside 8)) (eq-eqb _ _ h))
 
   pub offered_closed : offered R C shown i ≡ true → get_or shown i 0 ≡ 10
   unfolding offered
   offered_closed h = eqb-true _ _ (and_left _ _ h)
 
   pub offered_justifier : offered R C shown i ≡ true → justifier R C shown i < 8
-  offered_justifier h = ltb-true _ _ (offered_by (offered_closed h) refl ∙ h)
+  offered_justifier h = ltb-true _ _ (offered_by (offered_closed h) ∙ h)
 
   pub justifier_justifies : justifier R C shown i < 8 → beside (justifier R C shown i) ≡ true
   justifier_justifies h = (first_is beside 8).passes h
@@ -97,19 +99,24 @@ module _ (R C : ℕ) (shown : List ℕ) (i : ℕ) where
 
 module _ (R C : ℕ) (shown : List ℕ) where
   -- every cell was tried
-  pub all_tried : {i n : ℕ} → length shown ≡ R * C → n ≡ length shown → i ≤ n → n ≤ i → every (misses (offered R C shown)) i ≡ true → n ≡ offered_cell R C shown
-  all_tried {i} e d a b h =
+  pub all_tried : {i : ℕ} → length shown ≡ R * C → i ≤ length shown → length shown ≤ i → every (misses (offered R C shown)) i ≡ true
+      → None ≡ found (R * C) (offered_cell R C shown)
+  all_tried {i} e a b h =
       let z : i ≡ R * C = omega arith in
-      d ∙ e ∙ sym (first_none (misses (offered R C shown)) (R * C) (rw z at h))
+      let q : first (offered R C shown) (R * C) ≡ R * C = first_none (misses (offered R C shown)) (R * C) (rw z at h) in
+      found_none _ _ (omega arith)
 
-  pub offer_none : {i n : ℕ} → n ≡ R * C → i ≡ offered_cell R C shown → n ≤ i → Nothing ≡ offer_of R C shown
-  offer_none d e h = simp (le-ltb (offered_cell R C shown) (R * C) (omega arith))
+  pub offer_none : None ≡ found (R * C) (offered_cell R C shown) → Nothing ≡ offer_of R C shown
+  offer_none h = simp (le-ltb (offered_cell R C shown) (R * C) (none_found _ _ h))
 
-  pub offer_cell : {i n : ℕ} → n ≡ R * C → i ≡ offered_cell R C shown → i < n → hint_at R C shown i ≡ offer_of R C shown
-  offer_cell d e h = rw e (simp (lt-ltb (offered_cell R C shown) (R * C) (omega arith)))
+  pub offer_cell : (i : ℕ) → Some i ≡ found (R * C) (offered_cell R C shown) → hint_at R C shown i ≡ offer_of R C shown
+  offer_cell i h = let e = some_found _ _ i h in let l = e.1 in rw e.0 (simp (lt-ltb (offered_cell R C shown) (R * C) (omega arith)))
 
-  pub offer_justified : {i n : ℕ} → n ≡ R * C → i ≡ offered_cell R C shown → i < n → justifier R C shown i < 8
-  offer_justified d e h = offered_justifier R C shown _ (rw e ((first_is (offered R C shown) (R * C)).passes (omega arith)))
+  pub offer_justified : (i : ℕ) → Some i ≡ found (R * C) (offered_cell R C shown) → justifier R C shown i < 8
+  offer_justified i h =
+      let e = some_found _ _ i h in
+      let l = e.1 in
+      offered_justifier R C shown _ (rw e.0 ((first_is (offered R C shown) (R * C)).passes (omega arith)))
 
   pub hint_refused : {n : ℕ} → n ≡ shown_refusal R C shown true → (n ≡ 0 → ⊥) → Refused n ≡ hint_of R C shown
   unfolding hint_of hint_by
@@ -123,9 +130,9 @@ module _ (R C : ℕ) (shown : List ℕ) where
   hint_accepted a = hint_offer (shown_accepted R C shown true a refl)
 
   -- the code's sizes are those given
-  module _ {n : ℕ} (e : n ≡ shown_refusal R C shown true) (z : n ≡ 0) {r c : ℕ} (x : r ≡ R) (y : c ≡ C) where
+  module _ (e : 0 ≡ shown_refusal R C shown true) {r c : ℕ} (x : r ≡ R) (y : c ≡ C) where
     showable : Showable R C shown
-    showable = (shown_passed R C shown true (sym e ∙ z)).0
+    showable = (shown_passed R C shown true (sym e)).0
 
     pub wide_sized : Sized r c
     wide_sized = rw (x, y) (size_limits R C showable.size)
@@ -134,4 +141,4 @@ module _ (R C : ℕ) (shown : List ℕ) where
     wide_long = showable.long ∙ sym (product_same x y)
 
     pub wide_offer : {o : Hint} → o ≡ offer_of r c shown → o ≡ hint_of R C shown
-    wide_offer q = q ∙ ap₂ (λ (a b : ℕ). offer_of a b shown) x y ∙ hint_offer (sym e ∙ z)
+    wide_offer q = q ∙ ap₂ (λ (a b : ℕ). offer_of a b shown) x y ∙ hint_offer (sym e)

@@ -5,7 +5,6 @@ use mathlib.Core.List.{List}
 use Prim.Native.Nat.{ℕ, ◌*◌}
 use borrow.Author.Tests.{eqb-true}
 use lib.Dec.{ltb, eqb}
-use Rattle.rules.specs.declared.Place.{Place}
 use Rattle.rules.specs.Words.{pick}
 use Rattle.rules.specs.Picture.{shown_refusal}
 use Rattle.cells.proofs.Words.{one}

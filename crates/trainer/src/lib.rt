@@ -5,6 +5,7 @@
 ghost use Rattle.std.specs.Prelude.{◌≡◌, ◌*◌, ◌/◌, ◌%◌, ◌<◌, length};
 ghost use Rattle.cells.specs.Ground.{Sized};
 ghost use Rattle.rules.specs.Trainer.{justifies, offered, offered_cell, justifier, hint_at, offer_of, one_more_of, points_at, after_hint, HintIs, AskIs, ReportIs};
+ghost use Rattle.trainer.specs.Found.{found};
 
 use rules::{Advice, Hint, Place, Score};
 
@@ -30,25 +31,23 @@ fn justifies_at(shown: &[u8], rows: usize, columns: usize, cell: usize) -> bool
     seen.flags == v
 }
 
-// Which neighbour of a cell, in row order, is the first that justifies it; 8 if none does.
-fn justifier_of(shown: &[u8], rows: usize, columns: usize, cell: usize) -> usize
+// Which neighbour of a cell, in row order, is the first that justifies it.
+fn justifier_of(shown: &[u8], rows: usize, columns: usize, cell: usize) -> Option<usize>
     requires sized { Sized rows columns }
     requires shown_len { length shown.now ≡ rows * columns }
     requires cell_bound { cell < rows * columns }
-    ensures { result ≡ justifier rows columns shown.now cell }
+    ensures { result ≡ found 8 (justifier rows columns shown.now cell) }
 {
     let row = cell / columns;
     let column = cell % columns;
-    let mut k = 0;
-    while k < 8 {
+    for k in 0..8 {
         let q = cells::neighbour_at(rows, columns, row, column, k);
         let fine = justifies_at(shown, rows, columns, q);
         if fine {
-            return k;
+            return Some(k);
         }
-        k += 1;
     }
-    8
+    None
 }
 
 // A cell showing 10 with some number beside it that justifies it.
@@ -61,43 +60,33 @@ fn offered_at(shown: &[u8], rows: usize, columns: usize, cell: usize) -> bool
     if shown[cell] != 10 {
         return false;
     }
-    let k = justifier_of(shown, rows, columns, cell);
-    k < 8
+    justifier_of(shown, rows, columns, cell).is_some()
 }
 
-// The first cell offered; rows * columns if none is.
-fn offered_cell(shown: &[u8], rows: usize, columns: usize) -> usize
+// The first cell offered.
+fn offered_cell(shown: &[u8], rows: usize, columns: usize) -> Option<usize>
     requires sized { Sized rows columns }
     requires shown_len { length shown.now ≡ rows * columns }
-    ensures { result ≡ offered_cell rows columns shown.now }
+    ensures { result ≡ found (rows * columns) (offered_cell rows columns shown.now) }
 {
-    let cells = shown.len();
-    let mut i = 0;
-    while i < cells {
+    for i in 0..shown.len() {
         let fine = offered_at(shown, rows, columns, i);
         if fine {
-            return i;
+            return Some(i);
         }
-        i += 1;
     }
-    cells
+    None
 }
 
 // A cell's row and its column, as bytes.
-fn row_of(rows: usize, columns: usize, cell: usize) -> u8
+fn place_of(rows: usize, columns: usize, cell: usize) -> (u8, u8)
     requires sized { Sized rows columns }
     requires cell_bound { cell < rows * columns }
-    ensures { result ≡ cell / columns }
+    ensures { (result.0 ≡ cell / columns) × (result.1 ≡ cell % columns) }
 {
-    (cell / columns) as u8
-}
-
-fn column_of(rows: usize, columns: usize, cell: usize) -> u8
-    requires sized { Sized rows columns }
-    requires cell_bound { cell < rows * columns }
-    ensures { result ≡ cell % columns }
-{
-    (cell % columns) as u8
+    let row = (cell / columns) as u8;
+    let column = (cell % columns) as u8;
+    (row, column)
 }
 
 // The hint of an offered cell.
@@ -108,12 +97,10 @@ fn hint_at(shown: &[u8], rows: usize, columns: usize, cell: usize) -> Hint
     requires cell_bound_2 { justifier rows columns shown.now cell < 8 }
     ensures { result ≡ hint_at rows columns shown.now cell }
 {
-    let k = justifier_of(shown, rows, columns, cell);
+    let k = justifier_of(shown, rows, columns, cell).unwrap();
     let q = cells::neighbour_at(rows, columns, cell / columns, cell % columns, k);
-    let row = row_of(rows, columns, cell);
-    let column = column_of(rows, columns, cell);
-    let by_row = row_of(rows, columns, q);
-    let by_column = column_of(rows, columns, q);
+    let (row, column) = place_of(rows, columns, cell);
+    let (by_row, by_column) = place_of(rows, columns, q);
     Hint::Cell {
         row,
         column,
@@ -128,22 +115,21 @@ fn offer(shown: &[u8], rows: usize, columns: usize) -> Hint
     requires shown_len { length shown.now ≡ rows * columns }
     ensures { result ≡ offer_of rows columns shown.now }
 {
-    let i = offered_cell(shown, rows, columns);
-    if shown.len() <= i {
-        return Hint::Nothing;
+    match offered_cell(shown, rows, columns) {
+        Some(i) => hint_at(shown, rows, columns, i),
+        None => Hint::Nothing,
     }
-    hint_at(shown, rows, columns, i)
 }
 
 // A HINT: refused with 20, 21 or 261; else the first cell offered, or nothing to show.
 pub fn hint_on(rows: u8, columns: u8, shown: &[u8]) -> Hint
     ensures { HintIs rows columns shown.now result }
 {
-    let number = showing::shown_refusal(rows, columns, shown, true);
-    if number != 0 {
-        return Hint::Refused(number);
+    match showing::shown_refusal(rows, columns, shown, true) {
+        Ok(()) => offer(shown, usize::from(rows), usize::from(columns)),
+        // A number, since it is the one that the definition `hint_number` gives back.
+        Err(refusal) => Hint::Refused(u16::from(refusal)),
     }
-    offer(shown, cells::wide(rows), cells::wide(columns))
 }
 
 // ---- the score -------------------------------------------------------------------------------------------------------------------------
@@ -152,46 +138,29 @@ pub fn hint_on(rows: u8, columns: u8, shown: &[u8]) -> Hint
 fn one_more(n: u16) -> u16
     ensures { result ≡ one_more_of n }
 {
-    if n < 65535 {
-        return n + 1;
-    }
-    65535
+    n.saturating_add(1)
 }
 
 // The hint lives, and its cell is the pointer's.
 fn points_at(hint: Place, row: u8, column: u8) -> bool
     ensures { result ≡ points_at hint row column }
 {
-    match hint {
-        Place::Nowhere => false,
-        Place::At { row: r, column: c } => (r == row) & (c == column),
-    }
+    matches!(hint, Place::At { row: r, column: c } if (r == row) & (c == column))
 }
 
 // Asking counts; a cell replaces the hint before it, nothing drops it; a refused question changes nothing.
 fn after_hint(score: Score, hint: Hint) -> Score
     ensures { result ≡ after_hint hint score }
 {
-    match hint {
-        Hint::Cell {
-            row,
-            column,
-            by_row: _,
-            by_column: _,
-        } => Score {
-            asked: one_more(score.asked),
-            followed: score.followed,
-            hint: Place::At { row, column },
-        },
-        Hint::Nothing => {
-            let dropped = Place::Nowhere;
-            Score {
-                asked: one_more(score.asked),
-                followed: score.followed,
-                hint: dropped,
-            }
-        }
-        Hint::Refused(_) => score,
+    let latest = match hint {
+        Hint::Cell { row, column, .. } => Place::At { row, column },
+        Hint::Nothing => Place::Nowhere,
+        Hint::Refused(_) => return score,
+    };
+    Score {
+        asked: one_more(score.asked),
+        hint: latest,
+        ..score
     }
 }
 
@@ -211,18 +180,15 @@ pub fn report(score: Score, row: u8, column: u8, opened: u32) -> Score
     if opened == 0 {
         return score;
     }
-    let hint = score.hint;
-    if points_at(hint, row, column) {
-        return Score {
-            asked: score.asked,
-            followed: one_more(score.followed),
-            hint: Place::Nowhere,
-        };
+    let spent = Score {
+        hint: Place::Nowhere,
+        ..score
+    };
+    if !points_at(score.hint, row, column) {
+        return spent;
     }
-    let spent = Place::Nowhere;
     Score {
-        asked: score.asked,
-        followed: score.followed,
-        hint: spent,
+        followed: one_more(score.followed),
+        ..spent
     }
 }

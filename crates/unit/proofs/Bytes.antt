@@ -6,7 +6,6 @@ use Prim.Native.Nat.{ℕ, ◌*◌, ◌<◌}
 use native.Mathlib.Omega.{arith}
 use borrow.Author.Tests.{eqb-true, ne_eqb, ltb-true}
 use lib.Dec.{ltb, eqb}
-use Rattle.rules.specs.declared.Place.{Place}
 use Rattle.rules.specs.declared.Place.TheVariants.{Nowhere, At}
 use Rattle.rules.specs.Words.{pick}
 use Rattle.rules.specs.Board.{row_byte, column_byte}
@@ -16,7 +15,6 @@ use Rattle.cells.proofs.Words.{and_left, and_right}
 use Rattle.showing.proofs.Shown.{shown_passed}
 use Rattle.rules.specs.declared.Hint.{Hint}
 use Rattle.rules.specs.declared.Hint.TheVariants.{Cell, Nothing, Refused}
-use Rattle.rules.specs.declared.Score.{Score}
 use Rattle.rules.specs.Trainer.{offered_cell, hint_at, hint_by, hint_of, score}
 use Rattle.unit.specs.declared.FlatScore.{FlatScore}
 use Rattle.unit.specs.Unit.{score_in, flat_score}

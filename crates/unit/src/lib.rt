@@ -41,79 +41,76 @@ pub struct FlatAdvice {
 fn place_in(row: u8, column: u8) -> Place
     ensures { result ≡ place_in row column }
 {
-    let none = (row == 255) & (column == 255);
-    if none {
-        return Place::Nowhere;
-    }
-    Place::At { row, column }
-}
-
-fn score_in(f: FlatScore) -> Score
-    ensures { result ≡ score_in f }
-{
-    let hint = place_in(f.row, f.column);
-    Score {
-        asked: f.asked,
-        followed: f.followed,
-        hint,
+    match (row, column) {
+        (255, 255) => Place::Nowhere,
+        _ => Place::At { row, column },
     }
 }
 
-fn flat_score(score: Score) -> FlatScore
-    ensures { result ≡ flat_score score }
-{
-    let hint = score.hint;
-    let row = rules::row_byte(hint);
-    let column = rules::column_byte(hint);
-    FlatScore {
-        asked: score.asked,
-        followed: score.followed,
-        row,
-        column,
+impl From<FlatScore> for Score {
+    ghost from_gives = { λ f s. s ≡ score_in f };
+
+    fn from(f: FlatScore) -> Score {
+        Score {
+            asked: f.asked,
+            followed: f.followed,
+            hint: place_in(f.row, f.column),
+        }
     }
 }
 
-fn flat_hint(hint: Hint) -> FlatHint
-    ensures { result ≡ flat_hint hint }
-{
-    match hint {
-        Hint::Cell {
-            row,
-            column,
-            by_row,
-            by_column,
-        } => FlatHint {
-            number: 0,
-            row,
-            column,
-            by_row,
-            by_column,
-        },
-        Hint::Nothing => FlatHint {
+impl From<Score> for FlatScore {
+    ghost from_gives = { λ s f. f ≡ flat_score s };
+
+    fn from(score: Score) -> FlatScore {
+        FlatScore {
+            asked: score.asked,
+            followed: score.followed,
+            row: rules::row_byte(score.hint),
+            column: rules::column_byte(score.hint),
+        }
+    }
+}
+
+impl From<Hint> for FlatHint {
+    ghost from_gives = { λ h f. f ≡ flat_hint h };
+
+    fn from(hint: Hint) -> FlatHint {
+        let none = FlatHint {
             number: 0,
             row: 255,
             column: 255,
             by_row: 255,
             by_column: 255,
-        },
-        Hint::Refused(n) => FlatHint {
-            number: n,
-            row: 255,
-            column: 255,
-            by_row: 255,
-            by_column: 255,
-        },
+        };
+        match hint {
+            Hint::Cell {
+                row,
+                column,
+                by_row,
+                by_column,
+            } => FlatHint {
+                number: 0,
+                row,
+                column,
+                by_row,
+                by_column,
+            },
+            Hint::Nothing => none,
+            Hint::Refused(n) => FlatHint { number: n, ..none },
+        }
     }
 }
 
-fn flat_advice(a: Advice) -> FlatAdvice
-    ensures { result ≡ flat_advice a }
-{
-    let h = a.hint;
-    let s = a.score;
-    let hint = flat_hint(h);
-    let score = flat_score(s);
-    FlatAdvice { hint, score }
+impl From<Advice> for FlatAdvice {
+    ghost from_gives = { λ a f. f ≡ flat_advice a };
+
+    fn from(a: Advice) -> FlatAdvice {
+        FlatAdvice {
+            hint: FlatHint::from(a.hint),
+            score: FlatScore::from(a.score),
+        }
+    }
 }
 
 // ---- the calls -------------------------------------------------------------------------------------------------------------------------
@@ -123,8 +120,7 @@ fn flat_advice(a: Advice) -> FlatAdvice
 pub extern "C" fn lmt_hint(rows: u8, columns: u8, shown: &[u8]) -> FlatHint
     ensures { HintIs rows columns shown.now result }
 {
-    let h = trainer::hint_on(rows, columns, shown);
-    flat_hint(h)
+    FlatHint::from(trainer::hint_on(rows, columns, shown))
 }
 
 // A question, which counts: 20, 21, 261. A refused one gives the score back.
@@ -132,9 +128,7 @@ pub extern "C" fn lmt_hint(rows: u8, columns: u8, shown: &[u8]) -> FlatHint
 pub extern "C" fn lmt_ask(f: FlatScore, rows: u8, columns: u8, shown: &[u8]) -> FlatAdvice
     ensures { AskIs f rows columns shown.now result }
 {
-    let s = score_in(f);
-    let a = trainer::ask(s, rows, columns, shown);
-    flat_advice(a)
+    FlatAdvice::from(trainer::ask(Score::from(f), rows, columns, shown))
 }
 
 // A report of an event: its pointer, and how many cells it opened.
@@ -142,7 +136,5 @@ pub extern "C" fn lmt_ask(f: FlatScore, rows: u8, columns: u8, shown: &[u8]) -> 
 pub extern "C" fn lmt_report(f: FlatScore, row: u8, column: u8, opened: u32) -> FlatScore
     ensures { ReportIs f row column opened result }
 {
-    let s = score_in(f);
-    let t = trainer::report(s, row, column, opened);
-    flat_score(t)
+    FlatScore::from(trainer::report(Score::from(f), row, column, opened))
 }

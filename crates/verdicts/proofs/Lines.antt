@@ -1,11 +1,11 @@
 -- The line of a verdict by its parts, and how long it can be.
 use mathlib.Core.Path.{◌≡◌, ◌∙◌, sym, ap, refl}
-use mathlib.Core.Bool.{Bool, true, false}
+use mathlib.Core.Bool.{Bool}
+use mathlib.Core.Logic.{◌⊎◌, inl, inr}
 use mathlib.Core.List.{List, [], ◌∷◌, ◌++◌, append_assoc}
-use Prim.Native.Nat.{ℕ, ◌+◌, ◌*◌, ◌<◌, ◌≤◌}
+use Prim.Native.Nat.{ℕ, ◌+◌, ◌≤◌}
 use native.Mathlib.Omega.{arith}
 use borrow.Author.Tests.{eq-eqb, ne_eqb}
-use lib.Dec.{eqb}
 use lib.ListN.{length, length-append}
 use Rattle.rules.specs.Words.{pick}
 use Rattle.rules.specs.Printout.{spaced, word_refused, word_at_place}
@@ -108,5 +108,10 @@ module _ {v w : Verdict} (e : v ≡ w) {at : ℕ} {out : List ℕ} where
   pub case_put : {out' : List ℕ} {r : ℕ} → Put (tail w) at out out' r → Put (tail v) at out out' r
   case_put = put_as (ap tail (sym e))
 
-  pub case_none : tail w ≡ [] → Put (tail v) at out out at
+  case_none : tail w ≡ [] → Put (tail v) at out out at
   case_none none = put_as (sym (ap tail e ∙ none)) (record { next = omega arith; same = refl })
+
+-- nothing stands behind the number
+pub none_put : {v : Verdict} {at : ℕ} {out : List ℕ} → (v ≡ Accepted) ⊎ (v ≡ NotEnded) → Put (tail v) at out out at
+none_put (inl e) = case_none e refl
+none_put (inr e) = case_none e refl

@@ -13,7 +13,7 @@ use Rattle.rules.specs.Book.{events_end, book_of}
 use Rattle.rules.specs.Printout.{book_plays, book_end}
 use Rattle.rules.specs.Claims.{claimed_book_of, claim_at, ten_values, book_last, events_judged, agrees, claims_judged, check_by, check_of, is_ended, claim_by, claim_of}
 use Rattle.cells.proofs.Words.{pick_both}
-use Rattle.book.proofs.Places.{Placed, book_placed}
+use Rattle.book.proofs.Places.{book_placed}
 use Rattle.claims.proofs.Behind.{claimed_placed}
 use Rattle.verdicts.specs.Places.{place_in}
 

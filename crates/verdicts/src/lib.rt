@@ -14,9 +14,8 @@ fn put_told(out: &mut [u8], at: usize, word: &[u8], n: u32) -> usize
     requires { Room (told word.now n) at out.old }
     ensures { Put (told word.now n) at out.old out.new result }
 {
-    let ns = [n];
     let next = writing::put_bytes(out, at, word);
-    writing::put_spaced(out, next, &ns)
+    writing::put_spaced(out, next, &[n])
 }
 
 // What stands behind a claim that differs.
@@ -36,15 +35,14 @@ fn put_tail(out: &mut [u8], at: usize, v: Verdict) -> usize
     ensures { Put (tail v) at out.old out.new result }
 {
     match v {
-        Verdict::Accepted => at,
-        Verdict::Refused { number: _, place } => put_told(out, at, b" at", place as u32),
+        Verdict::Accepted | Verdict::NotEnded => at,
+        Verdict::Refused { place, .. } => put_told(out, at, b" at", place as u32),
         Verdict::EventRefused { event } => put_told(out, at, b" event", event),
-        Verdict::NotEnded => at,
         Verdict::ClaimDiffers { claim, says, is } => put_claim(out, at, claim, says, is),
     }
 }
 
-// The line: at most 66 bytes.
+// The line, by the number of the verdict as `verdict_line` has it: at most 66 bytes.
 pub fn put_verdict(out: &mut [u8], at: usize, v: Verdict) -> usize
     requires v_bound { place_in v < 4294967296 }
     requires at_in_bounds { at + 66 ≤ length out.old }
@@ -55,7 +53,7 @@ pub fn put_verdict(out: &mut [u8], at: usize, v: Verdict) -> usize
         let end = writing::put_bytes(out, at, b"accepted");
         return writing::put_byte(out, end, b'\n');
     }
-    let first = put_told(out, at, b"refused", n as u32);
+    let first = put_told(out, at, b"refused", u32::from(n));
     let end = put_tail(out, first, v);
     writing::put_byte(out, end, b'\n')
 }

@@ -4,40 +4,38 @@
 
 ghost use Rattle.std.specs.Prelude.{◌≡◌, ◌≤◌, length, drop};
 ghost use Rattle.rules.specs.Picture.{next_cell, cell_values, cells_refusal, ReadPictureIs};
+ghost use Rattle.rules.specs.Refusals.{refusal_number, found_number};
 ghost use Rattle.writing.specs.Put.{Put};
 ghost use Rattle.tokens.specs.Taken.{Taken};
+ghost use Rattle.viewing.specs.Answers.{answered};
 
-use rules::Picture;
+use heads::Head;
+use rules::{Picture, Refusal};
 use tokens::Number;
 
 // The next cell: no comment stands among the cells.
-fn cell_at(s: &[u8], from: usize) -> Number
+fn cell_at(s: &[u8], from: usize) -> Result<Number, Refusal>
     ensures { Taken s.now 63 (next_cell (drop from s.now)) result }
 {
-    tokens::token(s, from, false, false, 63)
+    tokens::token(s, from, false, false, Refusal::Cell)
 }
 
-// The first fault of `n` cells, or of what follows them; 0 for none.
-fn cells_fault(s: &[u8], from: usize, n: usize) -> u16
-    ensures { result ≡ cells_refusal n (drop from s.now) }
+// Judges `n` cells, and then what follows them.
+fn cells_fault(s: &[u8], from: usize, n: usize) -> Result<(), Refusal>
+    ensures { found_number result ≡ cells_refusal n (drop from s.now) }
 {
     let mut at = from;
-    let mut left = n;
-    while 0 < left {
-        let cell = cell_at(s, at);
-        if cell.fault != 0 {
-            return cell.fault;
-        }
+    for _i in 0..n {
+        let cell = cell_at(s, at)?;
         if !showing::is_shown(cell.value) {
-            return 63;
+            return Err(Refusal::Cell);
         }
         at = cell.next;
-        left -= 1;
     }
     if tokens::skip(s, at, false) < s.len() {
-        return 64;
+        return Err(Refusal::End);
     }
-    0
+    Ok(())
 }
 
 // `n` cells that have no fault, written to the front of the room.
@@ -46,20 +44,34 @@ fn take_cells(s: &[u8], from: usize, n: usize, cells: &mut [u8]) -> usize
     ensures { Put (cell_values n (drop from s.now)) 0 cells.old cells.new result }
 {
     let mut at = from;
-    let mut i = 0;
-    while i < n {
-        let cell = cell_at(s, at);
-        i = writing::put_byte(cells, i, cell.value);
+    for i in 0..n {
+        let cell = cell_at(s, at).unwrap();
+        writing::put_byte(cells, i, cell.value);
         at = cell.next;
     }
-    i
+    n
 }
 
-fn not_read(number: u16) -> Picture
-    ensures { result ≡ record { number = number; rows = 0; columns = 0 } }
+// What stands before the cells of a picture that is read into the room.
+fn take_picture(bytes: &[u8], cells: &mut [u8]) -> Result<Head, Refusal>
+    ensures { ReadPictureIs bytes.now cells.old (answered result) cells.new }
+{
+    if cells.len() != 2048 {
+        return Err(Refusal::Length);
+    }
+    let head = heads::read_head(bytes)?;
+    let n = boards::cell_count(head.rows, head.columns);
+    cells_fault(bytes, head.at, n)?;
+    take_cells(bytes, head.at, n, cells);
+    Ok(head)
+}
+
+// A `Picture` holds its number beside the size, since it is the type of the definition `ReadPictureIs`.
+fn not_read(refusal: Refusal) -> Picture
+    ensures { result ≡ record { number = refusal_number refusal; rows = 0; columns = 0 } }
 {
     Picture {
-        number,
+        number: u16::from(refusal),
         rows: 0,
         columns: 0,
     }
@@ -69,22 +81,12 @@ fn not_read(number: u16) -> Picture
 pub fn read_picture(bytes: &[u8], cells: &mut [u8]) -> Picture
     ensures { ReadPictureIs bytes.now cells.old result cells.new }
 {
-    if cells.len() != 2048 {
-        return not_read(21);
-    }
-    let head = heads::read_head(bytes);
-    if head.number != 0 {
-        return not_read(head.number);
-    }
-    let n = boards::cell_count(head.rows, head.columns);
-    let fault = cells_fault(bytes, head.at, n);
-    if fault != 0 {
-        return not_read(fault);
-    }
-    take_cells(bytes, head.at, n, cells);
-    Picture {
-        number: 0,
-        rows: head.rows,
-        columns: head.columns,
+    match take_picture(bytes, cells) {
+        Ok(head) => Picture {
+            number: 0,
+            rows: head.rows,
+            columns: head.columns,
+        },
+        Err(refusal) => not_read(refusal),
     }
 }

@@ -27,6 +27,13 @@ words_longest (Refused n) =
     let b = length-append word_refused (spaced (n ∷ [])) in
     omega arith
 
+-- the words over numbers by other names
+pub cell_as : {a b c d a' b' c' d' : ℕ} → a' ≡ a → b' ≡ b → c' ≡ c → d' ≡ d → hint_words (Cell a b c d) ≡ hint_words (Cell a' b' c' d')
+cell_as {a} {b} {c} {d} {a'} {b'} {c'} {d'} e f g h = let q : Cell a b c d ≡ Cell a' b' c' d' = cc in ap hint_words q
+
+pub refused_as : {n n' : ℕ} → n' ≡ n → hint_words (Refused n) ≡ hint_words (Refused n')
+refused_as {n} {n'} e = let q : Refused n ≡ Refused n' = cc in ap hint_words q
+
 pub words_room : (h : Hint) {at : ℕ} {out : List ℕ} → at + 51 ≤ length out → Room (hint_words h) at out
 words_room h fits = room_within 51 (words_longest h) fits
 

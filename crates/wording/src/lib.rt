@@ -13,8 +13,8 @@ fn put_cell(out: &mut [u8], at: usize, row: u8, column: u8, i: u8, j: u8) -> usi
     requires { Room (hint_words (Hint.Cell row column i j)) at out.old }
     ensures { Put (hint_words (Hint.Cell row column i j)) at out.old out.new result }
 {
-    let cell = [row as u32, column as u32];
-    let number = [i as u32, j as u32];
+    let cell = [u32::from(row), u32::from(column)];
+    let number = [u32::from(i), u32::from(j)];
     let first = writing::put_bytes(out, at, b"cell");
     let second = writing::put_spaced(out, first, &cell);
     let third = writing::put_bytes(out, second, b" by");
@@ -26,7 +26,7 @@ fn put_refused(out: &mut [u8], at: usize, n: u16) -> usize
     requires { Room (hint_words (Hint.Refused n)) at out.old }
     ensures { Put (hint_words (Hint.Refused n)) at out.old out.new result }
 {
-    let ns = [n as u32];
+    let ns = [u32::from(n)];
     let first = writing::put_bytes(out, at, b"refused");
     writing::put_spaced(out, first, &ns)
 }

@@ -6,12 +6,6 @@ ghost use Rattle.std.specs.Prelude.{◌≡◌, ◌∷◌, [], ◌+◌, ◌/◌, 
 ghost use Rattle.rules.specs.Printout.{decimal, spaced, line_of, word_line};
 ghost use Rattle.writing.specs.Put.{Room, Put};
 
-pub fn wide(x: u8) -> u32
-    ensures { (result ≡ x) × (result < 256) }
-{
-    x as u32
-}
-
 pub fn put_byte(out: &mut [u8], at: usize, b: u8) -> usize
     requires { Room (b ∷ []) at out.old }
     ensures { Put (b ∷ []) at out.old out.new result }
@@ -24,13 +18,9 @@ pub fn put_bytes(out: &mut [u8], at: usize, word: &[u8]) -> usize
     requires { Room word.now at out.old }
     ensures { Put word.now at out.old out.new result }
 {
-    let mut o = at;
-    let mut i = 0;
-    while i < word.len() {
-        o = put_byte(out, o, word[i]);
-        i += 1;
-    }
-    o
+    let end = at + word.len();
+    out[at..end].copy_from_slice(word);
+    end
 }
 
 // Two digits.
@@ -84,24 +74,21 @@ pub fn put_spaced(out: &mut [u8], at: usize, ns: &[u32]) -> usize
     ensures { Put (spaced ns.now) at out.old out.new result }
 {
     let mut o = at;
-    let mut i = 0;
-    while i < ns.len() {
-        o = put_number(out, o, ns[i]);
-        i += 1;
+    for n in ns {
+        o = put_number(out, o, *n);
     }
     o
 }
 
-// Cells with a space before each.
+// Cells with a space before each. One function with `put_spaced` over `Into<u32>` would not do: its bound says which results may come, and not the
+// numbers, so the contract could not name the text that needs room.
 pub fn put_cells(out: &mut [u8], at: usize, cells: &[u8]) -> usize
     requires { Room (spaced cells.now) at out.old }
     ensures { Put (spaced cells.now) at out.old out.new result }
 {
     let mut o = at;
-    let mut i = 0;
-    while i < cells.len() {
-        o = put_number(out, o, wide(cells[i]));
-        i += 1;
+    for cell in cells {
+        o = put_number(out, o, u32::from(*cell));
     }
     o
 }

@@ -14,8 +14,8 @@ parts r = (ap (λ (x : Opened). x.shown) r.0.outcome, r.0.same, r.1)
 
 pub refresh_board-o-requires : goal.refresh_board-o-requires
 unfolding stack_of
-refresh_board-o-requires c = record { laid = search rules; n_bound = search rules; below = (search rules, Prim.tt {0}) }
+refresh_board-o-requires c = record { laid = search rules; below = rw c.only.ensures (search rules, Prim.tt {0}) }
 
 pub returns : goal.returns
 unfolding stack_of
-returns c = parts c.refresh_board-o.ensures
+returns c = parts (rw c.only.ensures at c.refresh_board-o.ensures)

@@ -12,4 +12,4 @@ returns-in_default c = λ bits. rw (le-ltb _ _ c.if-events-lt3.false, ← c.deco
 
 pub returns : goal.returns
 unfolding refusal_at
-returns c = let a = c.args in λ bits. rw (le-ltb _ _ c.if-events-lt3.false, ← c.decode.ensures, c.in-At.is) (c.refusal_of.ensures bits ∙ rw (c.resolve_at-h.ensures a.shown.now bits) refl)
+returns c = let a = c.args in λ bits. rw (le-ltb _ _ c.if-events-lt3.false, ← c.decode.ensures, c.in-Some.is) (c.refusal_of.ensures bits ∙ rw (c.resolve_at-h.ensures a.shown.now bits) refl)

@@ -17,7 +17,7 @@ returns-then-not-values_ok c = refused_values _ _ _ _ (says_yes c.size_ok.ensure
     (not-false _ (ap not c.if-not-fit.false)) (says_no c.values_ok.ensures (ap not c.if-not-values_ok.true))
 
 pub numbers_ok-requires : goal.numbers_ok-requires
-numbers_ok-requires c = mined_at c.args.mines.now c.wide.ensures.0 c.wide-2.ensures.0
+numbers_ok-requires c = mined_at c.args.mines.now c.from.ensures c.from-2.ensures
     (says_yes c.size_ok.ensures (ap not c.if-not-size_ok.false))
     (c.requires (not-false _ (ap not c.if-not-fit.false)))
     (says_yes c.values_ok.ensures (ap not c.if-not-values_ok.false))
@@ -30,7 +30,7 @@ returns-then-not-numbers_ok c = refused_numbers _ _ _ _
     (says_yes c.values_ok.ensures (ap not c.if-not-values_ok.false))
     (says_no
     (numbers_at c.args.mines.now
-    c.wide.ensures.0 c.wide-2.ensures.0 c.numbers_ok.ensures)
+    c.from.ensures c.from-2.ensures c.numbers_ok.ensures)
     (ap not c.if-not-numbers_ok.true))
 
 pub some_safe-requires : goal.some_safe-requires
@@ -46,7 +46,7 @@ returns-then-not-some_safe c = refused_last _ _ _ _
     (ap not c.if-not-values_ok.false))
     (says_yes
     (numbers_at c.args.mines.now
-    c.wide.ensures.0 c.wide-2.ensures.0
+    c.from.ensures c.from-2.ensures
     c.numbers_ok.ensures)
     (ap not c.if-not-numbers_ok.false))
     (says_no c.some_safe.ensures (ap not c.if-not-some_safe.true))
@@ -60,7 +60,7 @@ returns c = refused_last _ _ _ _
     (ap not c.if-not-values_ok.false))
     (says_yes
     (numbers_at c.args.mines.now
-    c.wide.ensures.0 c.wide-2.ensures.0
+    c.from.ensures c.from-2.ensures
     c.numbers_ok.ensures)
     (ap not c.if-not-numbers_ok.false))
     (says_yes c.some_safe.ensures (ap not c.if-not-some_safe.false))

@@ -13,7 +13,7 @@ use Rattle.boards.proofs.number_fault.Goals as goal
 
 pub loop-row-init : goal.loop-row-init
 unfolding every
-loop-row-init c = let z : 0 * c.args.columns ≡ 0 = omega arith in (omega arith, ap (every (number_ok c.args.mines.now c.args.rows c.args.columns)) z)
+loop-row-init c = let z : 0 * c.args.columns ≡ 0 = omega arith in ap (every (number_ok c.args.mines.now c.args.rows c.args.columns)) z
 
 pub row_fault-column-requires : goal.row_fault-column-requires
 row_fault-column-requires c = record { mined = c.requires; row_lt_rows = search rules }
@@ -31,17 +31,14 @@ overflow_add-result c = let a = c.args in
 pub returns-then-column-columns : goal.returns-then-column-columns
 returns-then-column-columns c = let a = c.args in
     row_found (number_ok a.mines.now a.rows a.columns) a.columns c.loop-row.row c.row_fault-column.result
-    c.loop-row.invariant.1 c.row_fault-column.ensures a.rows (length a.mines.now) c.requires.long
+    c.loop-row.invariant c.row_fault-column.ensures a.rows (length a.mines.now) c.requires.long
     (search rules) (search rules)
 
 pub loop-row-preserved : goal.loop-row-preserved
-loop-row-preserved c = let a = c.args in (
-  search rules,
-  row_passed (number_ok a.mines.now a.rows a.columns) a.columns c.loop-row.row c.row_fault-column.result
-      c.loop-row.invariant.1 c.row_fault-column.ensures (search rules),
-)
+loop-row-preserved c = let a = c.args in row_passed (number_ok a.mines.now a.rows a.columns) a.columns c.loop-row.row c.row_fault-column.result
+    c.loop-row.invariant c.row_fault-column.ensures (search rules)
 
 pub returns : goal.returns
 returns c = let a = c.args in
     let q : c.loop-row.row ≡ a.rows = omega arith in
-    sym (first_none (number_ok a.mines.now a.rows a.columns) (length a.mines.now) (ap (every (number_ok a.mines.now a.rows a.columns)) (c.requires.long ∙ ap (λ (n : ℕ). n * a.columns) (sym q)) ∙ c.loop-row.invariant.1))
+    sym (first_none (number_ok a.mines.now a.rows a.columns) (length a.mines.now) (ap (every (number_ok a.mines.now a.rows a.columns)) (c.requires.long ∙ ap (λ (n : ℕ). n * a.columns) (sym q)) ∙ c.loop-row.invariant))

@@ -1,14 +1,9 @@
 -- `boards::safe_cells` meets its contract: the cells before `i` are counted.
 use mathlib.Core.Path.{◌≡◌}
 use mathlib.Core.Bool.{not}
-use Prim.Native.Nat.{◌≤◌, ◌-◌}
-use lib.ListN.{length}
 use Rattle.rules.specs.Words.{count}
 use Rattle.rules.specs.Board.{mine_at}
 use Rattle.boards.proofs.safe_cells.Given as goal
 
 abbrev pub invariant-loop-i : goal.invariant-loop-i
-invariant-loop-i l = (l.i ≤ length l.mines) × (l.n ≡ count (λ j. not (mine_at l.mines j)) l.i)
-
-abbrev pub decreases-loop-i : goal.decreases-loop-i
-decreases-loop-i l = length l.mines - l.i
+invariant-loop-i l = l.n ≡ count (λ j. not (mine_at l.mines j)) l.i

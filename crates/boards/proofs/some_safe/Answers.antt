@@ -1,6 +1,6 @@
 -- `boards::some_safe` meets its contract: the cells before `i` are mines; the first that is none answers for all. Assumes nothing.
 use mathlib.Core.Path.{ap, refl, sym, ◌∙◌}
-use mathlib.Core.Bool.{not, true}
+use mathlib.Core.Bool.{not}
 use native.Mathlib.Omega.{arith}
 use borrow.Author.Rules.{rules}
 use borrow.Author.Tests.{eq-eqb, ne_eqb}
@@ -13,7 +13,7 @@ use Rattle.boards.proofs.some_safe.Goals as goal
 
 pub loop-i-init : goal.loop-i-init
 unfolding every
-loop-i-init c = (omega arith, refl)
+loop-i-init c = refl
 
 pub returns-then-face_at-ne15 : goal.returns-then-face_at-ne15
 unfolding some_safe
@@ -24,13 +24,10 @@ returns-then-face_at-ne15 c = let B = c.args.mines.now in
     (ne_eqb _ _ (λ e. c.if-face_at-ne15.true (c.face_at.ensures ∙ e)))))
 
 pub loop-i-preserved : goal.loop-i-preserved
-loop-i-preserved c = (
-  search rules,
-  every_turn (mine_at c.args.mines.now) c.loop-i.i
-      c.loop-i.invariant.1 (eq-eqb _ _ (sym c.face_at.ensures ∙ c.if-face_at-ne15.false)),
-)
+loop-i-preserved c = every_turn (mine_at c.args.mines.now) c.loop-i.i
+    c.loop-i.invariant (eq-eqb _ _ (sym c.face_at.ensures ∙ c.if-face_at-ne15.false))
 
 pub returns : goal.returns
 unfolding some_safe
 returns c = let B = c.args.mines.now in
-    sym (ap not (every_end (mine_at B) (length B) c.loop-i.i (omega arith) (omega arith) c.loop-i.invariant.1))
+    sym (ap not (every_end (mine_at B) (length B) c.loop-i.i (omega arith) (omega arith) c.loop-i.invariant))

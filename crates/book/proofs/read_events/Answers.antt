@@ -5,15 +5,15 @@ use Rattle.book.proofs.read_events.Goals as goal
 
 pub returns-then-s-at : goal.returns-then-s-at
 unfolding events_from
-returns-then-s-at c = simp (lt-leb _ _ c.if-s-at.true, c.refused.ensures)
+returns-then-s-at c = simp (lt-leb _ _ c.if-s-at.true, c.refuse.ensures)
 
 pub returns-then-n-gt-MOST : goal.returns-then-n-gt-MOST
 unfolding events_from
-returns-then-n-gt-MOST c = simp (le-leb _ _ c.if-s-at.false, ← c.word_at-n.ensures.0, lt-leb _ _ c.if-n-gt-MOST.true, c.refused-then-n-gt-MOST.ensures)
+returns-then-n-gt-MOST c = simp (le-leb _ _ c.if-s-at.false, ← c.word_at-n.ensures.0, lt-leb _ _ c.if-n-gt-MOST.true, c.refuse-then-n-gt-MOST.ensures)
 
 pub returns-then-s-end : goal.returns-then-s-end
 unfolding events_from
-returns-then-s-end c = simp (le-leb _ _ c.if-s-at.false, ← c.word_at-n.ensures.0, le-leb _ _ c.if-n-gt-MOST.false, lt-leb _ _ c.if-s-end.true, c.refused-then-s-end.ensures)
+returns-then-s-end c = simp (le-leb _ _ c.if-s-at.false, ← c.word_at-n.ensures.0, le-leb _ _ c.if-n-gt-MOST.false, lt-leb _ _ c.if-s-end.true, c.refuse-then-s-end.ensures)
 
 pub returns : goal.returns
 unfolding events_from

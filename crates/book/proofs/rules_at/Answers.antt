@@ -5,5 +5,5 @@ use Rattle.book.proofs.rules_at.Goals as goal
 pub returns-then-s-eq5 : goal.returns-then-s-eq5
 returns-then-s-eq5 c = simp (eq-eqb _ _ c.if-s-eq5.true)
 
-pub returns : goal.returns
-returns c = simp (ne_eqb _ _ c.if-s-eq5.false)
+pub returns-else-s-eq5 : goal.returns-else-s-eq5
+returns-else-s-eq5 c = simp (ne_eqb _ _ c.if-s-eq5.false)

@@ -12,4 +12,4 @@ pub returns-then-is_button : goal.returns-then-is_button
 returns-then-is_button c = let a = c.args in button_briefly a.mines.now a.code (Cell a.row a.column) a.p a.shown.now a.bits.now c.requires.events_bound (sym c.is_button.ensures ∙ c.if-is_button.true) c.button.result c.button.new.shown c.button.new.bits c.button.ensures
 
 pub returns-then-code-eq4 : goal.returns-then-code-eq4
-returns-then-code-eq4 c = let a = c.args in move_steps a.mines.now a.code (Cell a.row a.column) a.p a.shown.now a.bits.now c.requires.events_bound c.if-code-eq4.true
+returns-then-code-eq4 c = let a = c.args in rw c.answered.ensures (move_steps a.mines.now a.code (Cell a.row a.column) a.p a.shown.now a.bits.now c.requires.events_bound c.if-code-eq4.true)

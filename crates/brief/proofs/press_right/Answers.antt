@@ -1,5 +1,6 @@
 -- `press_right`: a flag in a mode in which no pass follows it, or not brief.
-use mathlib.Core.Path.{◌∙◌}
+use mathlib.Core.Path.{◌∙◌, refl}
+use Rattle.std.proofs.lemmas.Grind.{common_steps}
 use native.Mathlib.Omega.{arith}
 use Rattle.brief.proofs.Ways.{on_board, rc_flags, flag_asks, flag_leaves}
 use Rattle.brief.proofs.press_right.Goals as goal
@@ -11,4 +12,4 @@ pub flag-position-requires : goal.flag-position-requires
 flag-position-requires c = let whole = flag_asks _ c.args.p _ _ _ c.args.row c.args.column _ c.requires.lawful_at c.requires.inside c.cell-cell.ensures c.moved-down.ensures in record { cell_in_bounds = whole.0; valued = whole.1.0; room_at = whole.1.1 }
 
 pub returns : goal.returns
-returns c = flag_leaves _ _ c.args.p _ _ c.args.shown.now c.args.bits.now _ _ c.moved-down.ensures c.flag-position.ensures ∙ rc_flags c.args.mines.now c.args.row c.args.column _ c.args.p _ _ c.cell-cell.ensures _ c.mouse_number-m.ensures (omega arith) c.if-shown-cell-ne10.false (omega arith)
+returns c = flag_leaves _ _ c.args.p _ _ c.args.shown.now c.args.bits.now _ _ c.moved-down.ensures c.flag-position.ensures ∙ rc_flags c.args.mines.now c.args.row c.args.column _ c.args.p _ _ c.cell-cell.ensures _ refl (grind (arith, common_steps)) c.if-shown-cell-ne10.false (omega arith)

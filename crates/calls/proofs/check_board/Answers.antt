@@ -5,7 +5,7 @@ use Rattle.refusals.proofs.Faults.{check_board_placeable}
 use Rattle.calls.proofs.check_board.Goals as goal
 
 pub found-requires : goal.found-requires
-found-requires c = check_board_placeable _ _ _ _ c.board_check-n.ensures
+found-requires c = check_board_placeable _ _ _ _ c.board_check-found.ensures
 
 pub returns : goal.returns
-returns c = c.found.ensures ∙ ap (checks _ _ _) c.board_check-n.ensures
+returns c = c.found.ensures ∙ ap (checks _ _ _) c.board_check-found.ensures

@@ -5,7 +5,7 @@ use Rattle.refusals.proofs.Faults.{check_placeable}
 use Rattle.calls.proofs.check_position.Goals as goal
 
 pub found-requires : goal.found-requires
-found-requires c = check_placeable _ _ _ c.check_refusal-n.ensures
+found-requires c = check_placeable _ _ _ c.check_refusal-found.ensures
 
 pub returns : goal.returns
-returns c = c.found.ensures ∙ ap (checks _ _ _) c.check_refusal-n.ensures
+returns c = c.found.ensures ∙ ap (checks _ _ _) c.check_refusal-found.ensures

@@ -9,8 +9,8 @@ use Rattle.cells.proofs.Words.{bytes_product}
 use Rattle.cells.proofs.size_ok.Goals as goal
 
 pub overflow_mul-cells : goal.overflow_mul-cells
-overflow_mul-cells c = record { fits = omega (arith, bytes_product _ _ c.wide.ensures.1 c.wide-2.ensures.1) }
+overflow_mul-cells c = record { fits = omega (arith, bytes_product c.from.result c.from-2.result (omega arith) (omega arith)) }
 
 pub returns : goal.returns
 unfolding size_ok
-returns c = ap₂ (λ (r k : ℕ). leb 1 c.args.rows && (leb c.args.rows 64 && (leb 1 c.args.columns && (leb c.args.columns 64 && leb (r * k) 2048)))) c.wide.ensures.0 c.wide-2.ensures.0
+returns c = ap₂ (λ (r k : ℕ). leb 1 c.args.rows && (leb c.args.rows 64 && (leb 1 c.args.columns && (leb c.args.columns 64 && leb (r * k) 2048)))) c.from.ensures c.from-2.ensures

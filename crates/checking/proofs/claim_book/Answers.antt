@@ -18,4 +18,4 @@ returns-then-not-is_ended c = claim_refuses_running _ c.read_book-b.result c.rea
 
 -- src/lib.rt:59:1
 pub returns : goal.returns
-returns c = claim_writes _ c.read_book-b.result c.read_book-b.ensures c.if-b-ne0.false c.play_book-o.ensures c.if-o-ge20.false c.is_ended.ensures (not-false _ (ap not c.if-not-is_ended.false)) c.section-section.ensures
+returns c = claim_writes _ c.read_book-b.result c.read_book-b.ensures c.if-b-ne0.false c.play_book-o.ensures c.if-o-ge20.false c.is_ended.ensures (not-false _ (ap not c.if-not-is_ended.false)) c.section.ensures

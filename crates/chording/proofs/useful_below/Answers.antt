@@ -6,7 +6,7 @@ use Rattle.chording.proofs.Seeking.{sought_start, sought_on, sought_first, sough
 use Rattle.chording.proofs.useful_below.Goals as goal
 
 pub loop-row-init : goal.loop-row-init
-loop-row-init c = (c.requires.from_le_rows, sought_start _ _ _ (mul-le-mul_right c.args.columns c.requires.from_le_rows))
+loop-row-init c = sought_start _ _ _ (mul-le-mul_right c.args.columns c.requires.from_le_rows)
 
 pub useful_of-at-requires : goal.useful_of-at-requires
 useful_of-at-requires c = record { sized = c.requires.sized; row_lt_rows = c.loop-row-test.true; shown_len = c.requires.shown_len }
@@ -18,16 +18,13 @@ pub overflow_add-result : goal.overflow_add-result
 overflow_add-result c = omega (arith, cell_lt c.args.rows c.args.columns c.loop-row.row c.useful_of-at.result c.loop-row-test.true c.if-at-columns.true, c.requires.sized.cells)
 
 pub returns-then-at-columns : goal.returns-then-at-columns
-returns-then-at-columns c = sought_first _ _ _ _ c.loop-row.invariant.1 _ (row_found _ _ _ _ c.loop-row-test.true 0 _ _ (omega arith) c.useful_of-at.ensures c.if-at-columns.true)
-
-pub overflow_add-row : goal.overflow_add-row
-overflow_add-row c = omega (arith, c.requires.sized.rows64)
+returns-then-at-columns c = sought_first _ _ _ _ c.loop-row.invariant _ (row_found _ _ _ _ c.loop-row-test.true 0 _ _ (omega arith) c.useful_of-at.ensures c.if-at-columns.true)
 
 pub loop-row-preserved : goal.loop-row-preserved
-loop-row-preserved c = (omega arith, sought_on _ _ _ _ c.loop-row.invariant.1 _ (row_passed _ _ _ _ c.loop-row-test.true 0 _ _ (omega arith) c.useful_of-at.ensures c.if-at-columns.false))
+loop-row-preserved c = sought_on _ _ _ _ c.loop-row.invariant _ (row_passed _ _ _ _ c.loop-row-test.true 0 _ _ (omega arith) c.useful_of-at.ensures c.if-at-columns.false)
 
 pub overflow_mul-result-2 : goal.overflow_mul-result-2
 overflow_mul-result-2 c = omega (arith, c.requires.sized.cells)
 
 pub returns : goal.returns
-returns c = sought_done _ _ _ _ c.loop-row.invariant.1 (mul-le-mul_right c.args.columns c.loop-row-test.false)
+returns c = sought_done _ _ _ _ c.loop-row.invariant (mul-le-mul_right c.args.columns c.loop-row-test.false)

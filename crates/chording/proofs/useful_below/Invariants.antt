@@ -1,11 +1,8 @@
 -- `chording::useful_below` meets its contract. The loop: no row before this one has a useful cell.
-use Prim.Native.Nat.{◌*◌, ◌-◌, ◌≤◌}
+use Prim.Native.Nat.{◌*◌}
 use Rattle.rules.specs.Clicks.{chord_is_useful}
 use Rattle.chording.proofs.Seeking.{Sought}
 use Rattle.chording.proofs.useful_below.Given as goal
 
 abbrev pub invariant-loop-row : goal.invariant-loop-row
-invariant-loop-row l = (l.row ≤ l.rows) × Sought (chord_is_useful l.rows l.columns l.shown) (l.from * l.columns) (l.rows * l.columns) (l.row * l.columns)
-
-abbrev pub decreases-loop-row : goal.decreases-loop-row
-decreases-loop-row l = l.rows - l.row
+invariant-loop-row l = Sought (chord_is_useful l.rows l.columns l.shown) (l.from * l.columns) (l.rows * l.columns) (l.row * l.columns)

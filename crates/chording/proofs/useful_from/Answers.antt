@@ -1,6 +1,5 @@
 -- `chording::useful_from` meets its contract. The loop: none before this column is useful.
 use mathlib.Core.Path.{sym, ◌∙◌}
-use native.Mathlib.Omega.{arith}
 use Rattle.chording.proofs.Seeking.{sought_start, sought_turn, sought_found, sought_done}
 use Rattle.chording.proofs.useful_from.Goals as goal
 
@@ -12,9 +11,6 @@ useful_at-requires c = record { sized = c.requires.sized; row_lt_rows = (c.requi
 
 pub returns-then-useful_at : goal.returns-then-useful_at
 returns-then-useful_at c = sought_found _ _ _ _ c.loop-column.invariant (sym c.useful_at.ensures ∙ c.if-useful_at.true)
-
-pub overflow_add-column : goal.overflow_add-column
-overflow_add-column c = omega (arith, c.requires.sized.columns64)
 
 pub loop-column-preserved : goal.loop-column-preserved
 loop-column-preserved c = sought_turn _ _ _ _ c.loop-column.invariant c.loop-column-test.true (sym c.useful_at.ensures ∙ c.if-useful_at.false)

@@ -1,5 +1,4 @@
 -- `chording::useful_from` meets its contract. The loop: none before this column is useful.
-use Prim.Native.Nat.{◌-◌}
 use Rattle.rules.specs.Grid.{cell_of}
 use Rattle.rules.specs.Clicks.{chord_is_useful}
 use Rattle.chording.proofs.Seeking.{Sought}
@@ -7,6 +6,3 @@ use Rattle.chording.proofs.useful_from.Given as goal
 
 abbrev pub invariant-loop-column : goal.invariant-loop-column
 invariant-loop-column l = Sought (λ c. chord_is_useful l.rows l.columns l.shown (cell_of l.columns l.row c)) l.from l.columns l.column
-
-abbrev pub decreases-loop-column : goal.decreases-loop-column
-decreases-loop-column l = l.columns - l.column

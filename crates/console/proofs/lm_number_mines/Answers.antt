@@ -2,4 +2,4 @@
 use Rattle.console.proofs.lm_number_mines.Goals as goal
 
 pub returns : goal.returns
-returns c = simp c.wide.ensures c.number_mines.ensures
+returns c = simp c.from.ensures c.number_mines.ensures

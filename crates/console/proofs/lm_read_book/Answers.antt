@@ -4,4 +4,4 @@ use Rattle.flats.specs.Flat.{flat_book}
 use Rattle.console.proofs.lm_read_book.Goals as goal
 
 pub returns : goal.returns
-returns c = c.flat_book.ensures ∙ ap flat_book c.read_book-b.ensures
+returns c = c.from.ensures ∙ ap flat_book c.read_book-b.ensures

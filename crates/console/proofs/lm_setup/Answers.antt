@@ -3,4 +3,4 @@ use Rattle.console.proofs.Making.{setup_flat_lem}
 use Rattle.console.proofs.lm_setup.Goals as goal
 
 pub returns : goal.returns
-returns c = setup_flat_lem _ _ _ _ _ _ _ _ _ _ _ _ _ c.settings_of-s.ensures c.setup-a.ensures c.flat_answer.ensures
+returns c = setup_flat_lem _ _ _ _ _ _ _ _ _ _ _ _ _ c.settings_of-s.ensures c.setup-a.ensures c.from.ensures

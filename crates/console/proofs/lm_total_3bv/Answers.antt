@@ -3,4 +3,4 @@ use Rattle.console.proofs.Making.{total_flat}
 use Rattle.console.proofs.lm_total_3bv.Goals as goal
 
 pub returns : goal.returns
-returns c = total_flat _ _ _ _ _ _ _ c.flat_value.ensures c.total_3bv-v.ensures
+returns c = total_flat _ _ _ _ _ _ _ c.from.ensures c.total_3bv-v.ensures

@@ -1,16 +1,19 @@
 -- `drawing::write_picture` meets its contract: a refusal leaves the room as it was, and the plain form fits it.
+use mathlib.Core.Path.{refl, sym, ◌∙◌}
 use native.Mathlib.Omega.{arith}
-use Rattle.drawing.proofs.Drawing.{draw_refused, draw_room, draw_fits, draw_written}
+use Rattle.drawing.proofs.Drawing.{draw_refused, draw_room, draw_fits, draw_written, drawn_as}
+use Rattle.cells.proofs.Refused.{never_0}
 use Rattle.drawing.proofs.write_picture.Goals as goal
 
-pub returns-then-number-ne0 : goal.returns-then-number-ne0
-returns-then-number-ne0 c = draw_refused _ _ _ _ c.shown_refusal-number.ensures c.if-number-ne0.true
+pub returns-in-Err : goal.returns-in-Err
+returns-in-Err c = drawn_as c.answer-in-Err.ensures
+    (draw_refused _ _ _ _ (c.from.ensures ∙ c.in-Err.ensures) (λ z. never_0 _ (sym c.from.ensures ∙ z)))
 
 pub put_picture-long-requires : goal.put_picture-long-requires
-put_picture-long-requires c = draw_room _ _ _ _ c.shown_refusal-number.ensures c.if-number-ne0.false
+put_picture-long-requires c = draw_room _ _ _ _ c.in-Ok.ensures refl
 
-pub overflow_cast-result : goal.overflow_cast-result
-overflow_cast-result c = let h = draw_fits _ _ _ _ c.shown_refusal-number.ensures c.if-number-ne0.false c.put_picture-long.ensures in omega arith
+pub overflow_cast-long : goal.overflow_cast-long
+overflow_cast-long c = let h = draw_fits _ _ _ _ c.in-Ok.ensures refl c.put_picture-long.ensures in omega arith
 
-pub returns : goal.returns
-returns c = draw_written _ _ _ _ c.shown_refusal-number.ensures c.if-number-ne0.false c.put_picture-long.ensures
+pub returns-in-Ok : goal.returns-in-Ok
+returns-in-Ok c = drawn_as c.answer.ensures (draw_written _ _ _ _ c.in-Ok.ensures refl c.put_picture-long.ensures)

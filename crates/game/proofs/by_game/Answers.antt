@@ -1,4 +1,8 @@
 -- `game::by_game` meets its contract.
+use mathlib.Core.Path.{◌≡◌}
+use mathlib.Core.Logic.{◌⊎◌, inl, inr}
+use Rattle.rules.specs.declared.GameState.TheVariants.{Win, Loss}
+use Rattle.rules.specs.Clicks.{desk, done}
 use Rattle.cells.proofs.Contracts.{leaves_by, leaves_here}
 use Rattle.rules.specs.Step.{by_game}
 use Rattle.game.proofs.Steps.{lawful_asked}
@@ -27,8 +31,9 @@ returns-in-Playing c = leaves_by c.playing.ensures (simp c.in-Playing.is)
 
 pub returns-in-Win : goal.returns-in-Win
 unfolding by_game
-returns-in-Win c = leaves_here (simp (c.in-Win.is, c.answered.ensures))
-
-pub returns-in-Loss : goal.returns-in-Loss
-unfolding by_game
-returns-in-Loss c = leaves_here (simp (c.in-Loss.is, c.answered-in-Loss.ensures))
+returns-in-Win c = leaves_here (over c.in-Win.is)
+  where
+    over : (c.args.p.game ≡ Win) ⊎ (c.args.p.game ≡ Loss)
+        → done c.answered.result.answer (desk c.answered.result.position c.args.shown.now c.args.bits.now) ≡ by_game c.args.p.game c.args.mines.now c.args.e (desk c.args.p c.args.shown.now c.args.bits.now)
+    over (inl q) = simp (q, c.answered.ensures)
+    over (inr q) = simp (q, c.answered.ensures)

@@ -1,5 +1,4 @@
 -- `hands::chording_click` meets its contract: the chord, its count, and the passes after it.
-use mathlib.Core.Path.{◌∙◌}
 use native.Mathlib.Omega.{arith}
 use Rattle.hands.proofs.Hand.{chord_asks, chord_dce, chord_then, chord_done}
 use Rattle.hands.proofs.chording_click.Goals as goal
@@ -15,15 +14,6 @@ add_dce-c-requires c = chord_dce _ _ _ _ _ _ c.requires.able_at _ c.with_double-
 
 pub passes_after_chord-position-requires : goal.passes_after_chord-position-requires
 passes_after_chord-position-requires c = chord_then _ _ _ _ _ _ c.requires.able_at _ c.with_double-q.ensures _ _ _ c.perform_chord-o.ensures _ c.add_dce-c.ensures
-
-pub shape_of-shown : goal.shape_of-shown
-shape_of-shown c = c.passes_after_chord-position.auto.shown ∙ c.perform_chord-o.auto.shown
-
-pub shape_of-bits : goal.shape_of-bits
-shape_of-bits c = c.passes_after_chord-position.auto.bits
-
-pub shape_of-work : goal.shape_of-work
-shape_of-work c = c.passes_after_chord-position.auto.work ∙ c.perform_chord-o.auto.work
 
 pub returns : goal.returns
 returns c = chord_done _ _ _ _ _ _ c.requires.able_at _ c.with_double-q.ensures _ _ _ c.perform_chord-o.ensures _ c.add_dce-c.ensures _ _ c.passes_after_chord-position.ensures

@@ -1,11 +1,7 @@
--- `judging::judge_cells`: the invariant is the tally of the first i cells.
-use Prim.Native.Nat.{◌≤◌, ◌-◌}
+-- `judging::judge_cells`: the invariant is the tally of the cells so far.
 use Rattle.rules.specs.Words.{stack_of}
 use Rattle.judging.specs.Parts.{Tallied}
 use Rattle.judging.proofs.judge_cells.Given as goal
 
-abbrev pub invariant-loop-i : goal.invariant-loop-i
-invariant-loop-i l = (l.i ≤ l.n) × Tallied l.mines l.rows l.columns l.shown (stack_of l.at l.i) l.initial.work l.work l.sum
-
-abbrev pub decreases-loop-i : goal.decreases-loop-i
-decreases-loop-i l = l.n - l.i
+abbrev pub invariant-loop-cell : goal.invariant-loop-cell
+invariant-loop-cell l = Tallied l.mines l.rows l.columns l.shown (stack_of l.cells l.cell-index) l.initial.work l.work l.sum

@@ -5,8 +5,8 @@ use mathlib.Core.Path.{ap}
 use mathlib.Core.Bool.{not}
 use Rattle.judging.proofs.judge_left.Goals as goal
 
-pub returns-then-not-due : goal.returns-then-not-due
-returns-then-not-due c = judged_open c.not_open-due.ensures _ _ _ _ _ _ (not-true _ (ap not c.if-not-due.true))
+pub returns-then-not-not_open : goal.returns-then-not-not_open
+returns-then-not-not_open c = judged_open c.not_open.ensures _ _ _ _ _ _ (not-true _ (ap not c.if-not-not_open.true))
 
 pub returns : goal.returns
-returns c = judged_due c.not_open-due.ensures _ _ _ _ _ _ (not-false _ (ap not c.if-not-due.false)) _ _ c.judge_one.ensures
+returns c = judged_due c.not_open.ensures _ _ _ _ _ _ (not-false _ (ap not c.if-not-not_open.false)) _ _ c.judge_one.ensures

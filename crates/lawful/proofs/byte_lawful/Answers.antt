@@ -13,13 +13,13 @@ returns-then-bits-at-eq0 c = byte_clear _ _ _ c.if-bits-at-eq0.true
 
 pub loop-k-init : goal.loop-k-init
 unfolding every
-loop-k-init c = (omega arith, refl)
+loop-k-init c = refl
 
 pub bit_lawful-fine-requires : goal.bit_lawful-fine-requires
 bit_lawful-fine-requires c = record { n_bound = omega (arith, c.requires.at_in_bounds); valued = c.requires.valued }
 
 pub loop-k-preserved : goal.loop-k-preserved
-loop-k-preserved c = let a = c.args in (omega arith, every_more (λ j. bit_lawful a.mines.now a.bits.now (8 * a.at + j)) _ _ _ c.loop-k.invariant.1 c.bit_lawful-fine.ensures)
+loop-k-preserved c = let a = c.args in every_more (λ j. bit_lawful a.mines.now a.bits.now (8 * a.at + j)) _ _ _ c.loop-k.invariant c.bit_lawful-fine.ensures
 
 pub returns : goal.returns
-returns c = let a = c.args in c.loop-k.invariant.1 ∙ ap (every (λ j. bit_lawful a.mines.now a.bits.now (8 * a.at + j))) (omega arith)
+returns c = let a = c.args in c.loop-k.invariant ∙ ap (every (λ j. bit_lawful a.mines.now a.bits.now (8 * a.at + j))) (omega arith)

@@ -5,7 +5,7 @@ use Rattle.cells.proofs.Words.{bytes_product}
 use Rattle.mouse.proofs.cell.Goals as goal
 
 pub overflow_mul-result : goal.overflow_mul-result
-overflow_mul-result c = record { fits = omega (arith, bytes_product c.args.row c.args.columns (search rules) (search rules)) }
+overflow_mul-result c = record { fits = let b = bytes_product c.from.result c.from-2.result (search rules) (search rules) in omega arith }
 
 pub overflow_add-result : goal.overflow_add-result
-overflow_add-result c = record { fits = omega (arith, bytes_product c.args.row c.args.columns (search rules) (search rules)) }
+overflow_add-result c = record { fits = let b = bytes_product c.from.result c.from-2.result (search rules) (search rules) in omega arith }

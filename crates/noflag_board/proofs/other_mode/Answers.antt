@@ -13,10 +13,10 @@ pub returns-then-not-count : goal.returns-then-not-count
 returns-then-not-count c = other_count _ c.if-s-lt1.false (not-true _ (ap not c.if-not-count.true))
 
 pub returns-then-s-end : goal.returns-then-s-end
-returns-then-s-end c = other_short _ c.if-s-lt1.false _ (not-false _ (ap not c.if-not-count.false)) c.wide-end.ensures.0 c.if-s-end.true
+returns-then-s-end c = other_short _ c.if-s-lt1.false _ (not-false _ (ap not c.if-not-count.false)) c.from-end.ensures c.if-s-end.true
 
 pub mode_wrong-requires : goal.mode_wrong-requires
-mode_wrong-requires c = (settings_there _ _ (not-false _ (ap not c.if-not-count.false)) c.wide-end.ensures.0 c.if-s-end.false).0
+mode_wrong-requires c = (settings_there _ _ (not-false _ (ap not c.if-not-count.false)) c.from-end.ensures c.if-s-end.false).0
 
 pub returns : goal.returns
-returns c = other_there _ c.if-s-lt1.false _ (not-false _ (ap not c.if-not-count.false)) c.wide-end.ensures.0 c.if-s-end.false _ c.mode_wrong.ensures
+returns c = other_there _ c.if-s-lt1.false _ (not-false _ (ap not c.if-not-count.false)) c.from-end.ensures c.if-s-end.false _ c.mode_wrong.ensures

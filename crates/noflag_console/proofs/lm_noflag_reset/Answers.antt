@@ -3,4 +3,4 @@ use Rattle.console.proofs.Making.{reset_flat_lem}
 use Rattle.noflag_console.proofs.lm_noflag_reset.Goals as goal
 
 pub returns : goal.returns
-returns c = reset_flat_lem _ _ _ _ _ _ _ _ _ c.position_in-p.ensures c.reset-a.ensures c.reset_for.ensures
+returns c = reset_flat_lem _ _ _ _ _ _ _ _ _ c.from-p.ensures c.reset-a.ensures c.reset_for.ensures

@@ -1,11 +1,6 @@
 -- `noflag_player::free` meets its contract: the bytes passed over hold no forbidden event.
-use Prim.Native.Nat.{◌-◌}
-use lib.ListN.{length}
 use Rattle.noflag_player.proofs.Freeing.{Freeing}
 use Rattle.noflag_player.proofs.free.Given as goal
 
 abbrev pub invariant-loop-k : goal.invariant-loop-k
 invariant-loop-k l = Freeing l.events l.k
-
-abbrev pub decreases-loop-k : goal.decreases-loop-k
-decreases-loop-k l = length l.events - l.k

@@ -1,5 +1,5 @@
 -- `noflag_player::put_barred` meets its contract.
-use mathlib.Core.Path.{refl}
+use mathlib.Core.Path.{refl, ◌∙◌}
 use Rattle.noflag_player.proofs.Barring.{barred_refused, barred_none, barred_put}
 use Rattle.noflag_player.proofs.put_barred.Goals as goal
 
@@ -10,4 +10,4 @@ pub returns-then-events-n : goal.returns-then-events-n
 returns-then-events-n c = barred_none c.requires c.if-t-ge20.false c.if-events-n.true
 
 pub returns : goal.returns
-returns c = barred_put c.requires c.if-t-ge20.false c.if-events-n.false c.forbids-answer.ensures refl c.put_play.ensures
+returns c = barred_put c.requires c.if-t-ge20.false c.if-events-n.false (c.from.ensures ∙ c.forbids-refusal.ensures) refl c.put_play.ensures

@@ -4,4 +4,4 @@ use Rattle.numbering.proofs.Numbering.{cell_is}
 use Rattle.numbering.proofs.mine_cell.Goals as goal
 
 pub returns : goal.returns
-returns c = (cell_is c.args.columns _ c.cell_count.ensures.0 c.wide.ensures.0, omega arith)
+returns c = (cell_is c.args.columns _ c.cell_count.ensures.0 c.from.ensures, omega arith)

@@ -1,12 +1,8 @@
 -- `numbering::number_cells` meets its contract: the first `i` cells are numbered, and the board stays one of its size and values. Assumes nothing.
 use mathlib.Core.Path.{◌≡◌}
-use Prim.Native.Nat.{◌≤◌, ◌-◌, ◌*◌}
 use Rattle.cells.specs.Ground.{Mined}
 use Rattle.numbering.specs.Numbering.{number_first}
 use Rattle.numbering.proofs.number_cells.Given as goal
 
 abbrev pub invariant-loop-i : goal.invariant-loop-i
-invariant-loop-i l = (l.i ≤ l.rows * l.columns) × Mined l.mines l.rows l.columns × (l.mines ≡ number_first l.rows l.columns l.i l.initial.mines)
-
-abbrev pub decreases-loop-i : goal.decreases-loop-i
-decreases-loop-i l = l.rows * l.columns - l.i
+invariant-loop-i l = Mined l.mines l.rows l.columns × (l.mines ≡ number_first l.rows l.columns l.i l.initial.mines)

@@ -1,12 +1,7 @@
 -- `opening::cross_flags` meets its contract. The loop's invariant: the first i flags are crossed, and the cells from i on are as they were. Assumes nothing.
 use mathlib.Core.Path.{◌≡◌}
-use Prim.Native.Nat.{◌≤◌, ◌-◌}
-use lib.ListN.{length}
 use Rattle.rules.specs.Opening.{crossed}
 use Rattle.opening.proofs.cross_flags.Given as goal
 
 abbrev pub invariant-loop-i : goal.invariant-loop-i
-invariant-loop-i l = (l.i ≤ length l.shown) × (l.shown ≡ crossed l.mines l.i l.initial.shown) × (length l.shown ≡ length l.initial.shown)
-
-abbrev pub decreases-loop-i : goal.decreases-loop-i
-decreases-loop-i l = length l.shown - l.i
+invariant-loop-i l = l.shown ≡ crossed l.mines l.i l.initial.shown

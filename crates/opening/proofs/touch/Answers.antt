@@ -22,8 +22,8 @@ overflow_add-opened c = let o = open_most c.args.shown.now in
 pub overflow_cast-work : goal.overflow_cast-work
 overflow_cast-work c = let l = (roomy_closed _ _ _ _ _ c.requires.roomy (sym c.closed.ensures ∙ c.if-closed.true)).1.0 in omega arith
 
-pub bounds-work-top : goal.bounds-work-top
-bounds-work-top c = let l = (roomy_closed _ _ _ _ _ c.requires.roomy (sym c.closed.ensures ∙ c.if-closed.true)).1.1 in omega arith
+pub bounds-work-past : goal.bounds-work-past
+bounds-work-past c = let l = (roomy_closed _ _ _ _ _ c.requires.roomy (sym c.closed.ensures ∙ c.if-closed.true)).1.1 in omega arith
 
 pub returns-then-v-eq0 : goal.returns-then-v-eq0
 returns-then-v-eq0 c = let e = sym c.closed.ensures ∙ c.if-closed.true in

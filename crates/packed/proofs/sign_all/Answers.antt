@@ -1,4 +1,4 @@
--- `packed::sign_all` meets its contract. The invariant: the cells passed are signed. The measure is how many are left.
+-- `packed::sign_all` meets its contract. The invariant: the cells passed are signed.
 use native.Mathlib.Omega.{arith}
 use Rattle.packed.proofs.Signs.{signing_start, signing_turn, signing_done}
 use Rattle.packed.proofs.sign_all.Goals as goal
@@ -10,7 +10,7 @@ pub bounds-mines-i : goal.bounds-mines-i
 bounds-mines-i c = omega arith
 
 pub loop-i-preserved : goal.loop-i-preserved
-loop-i-preserved c = signing_turn c.loop-i.invariant c.signed.ensures (c.type_inv.bytes _).fits c.loop-i-test.true
+loop-i-preserved c = signing_turn c.loop-i.invariant c.cast_signed.ensures (c.type_inv.bytes _) c.loop-i-test.true
 
 pub shape_of-mines : goal.shape_of-mines
 shape_of-mines c = omega arith

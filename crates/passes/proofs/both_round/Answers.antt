@@ -1,5 +1,5 @@
 -- `passes::both_round` meets its contract: what the flag pass leaves is ready for the chord pass.
-use mathlib.Core.Path.{refl, ◌∙◌}
+use mathlib.Core.Path.{refl}
 use Rattle.passes.proofs.Turns.{prepared_flaggable, turn_asks, turn_is}
 use Rattle.passes.proofs.both_round.Goals as goal
 
@@ -8,15 +8,6 @@ flag_pass-q-requires c = let whole = prepared_flaggable _ _ _ c.requires in reco
 
 pub chord_pass-s-requires : goal.chord_pass-s-requires
 chord_pass-s-requires c = let whole = turn_asks _ _ _ _ c.requires c.flag_pass-q.ensures in record { laid_at = whole.0; pass_room_at = whole.1 }
-
-pub shape_of-shown : goal.shape_of-shown
-shape_of-shown c = c.chord_pass-s.auto.shown ∙ c.flag_pass-q.auto.shown
-
-pub shape_of-bits : goal.shape_of-bits
-shape_of-bits c = c.flag_pass-q.auto.bits
-
-pub shape_of-work : goal.shape_of-work
-shape_of-work c = c.chord_pass-s.auto.work
 
 pub returns : goal.returns
 returns c = turn_is _ _ _ _ c.requires c.flag_pass-q.ensures _ _ _ _ c.chord_pass-s.ensures refl c.goes_on-any.ensures

@@ -1,41 +1,22 @@
 -- `passes::passes_after_chord` meets its contract: at each return the tests say which pass followed.
-use mathlib.Core.Path.{sym, ◌∙◌}
-use borrow.Author.Tests.{not-true, not-false}
+use mathlib.Core.Path.{sym}
 use Rattle.cells.proofs.Contracts.{leaves_by, leaves_here}
-use Rattle.passes.proofs.After.{chord_over, chord_both, chord_alone, chord_none, leaves_scan}
-use mathlib.Core.Path.{ap}
-use mathlib.Core.Bool.{not}
+use Rattle.chording.proofs.Playing.{is_over, is_on}
+use Rattle.passes.proofs.After.{is_both, is_chord, neither, chord_over, chord_both, chord_alone, chord_none, leaves_scan}
 use Rattle.passes.proofs.passes_after_chord.Goals as goal
 
-pub returns-then-not-playing : goal.returns-then-not-playing
-returns-then-not-playing c = leaves_here (sym (chord_over _ _ (sym c.playing.ensures ∙ not-true _ (ap not c.if-not-playing.true))))
+pub returns-then-ne : goal.returns-then-ne
+returns-then-ne c = leaves_here (sym (chord_over _ _ (is_over _ _ c.ne.ensures c.if-ne.true)))
 
-pub both_pass-requires : goal.both_pass-requires
-both_pass-requires c = c.requires
+pub returns-in-13 : goal.returns-in-13
+returns-in-13 c = leaves_by c.both_pass.ensures (chord_both _ _ (is_on _ _ c.ne.ensures c.if-ne.false) (is_both _ c.in-13.is))
 
-pub shape_of-shown-then-one_of : goal.shape_of-shown-then-one_of
-shape_of-shown-then-one_of c = c.both_pass.auto.shown
+pub returns-in-11 : goal.returns-in-11
+returns-in-11 c =
+    let m = is_chord _ c.in-11.is in
+    leaves_scan _ _ _ _ _ _ _ _ _ c.chord_pass.ensures (chord_alone _ _ (is_on _ _ c.ne.ensures c.if-ne.false) m.0 m.1)
 
-pub shape_of-bits-then-one_of : goal.shape_of-bits-then-one_of
-shape_of-bits-then-one_of c = c.both_pass.auto.bits
-
-pub shape_of-work-then-one_of : goal.shape_of-work-then-one_of
-shape_of-work-then-one_of c = c.both_pass.auto.work
-
-pub returns-then-one_of : goal.returns-then-one_of
-returns-then-one_of c = leaves_by c.both_pass.ensures (chord_both _ _ (sym c.playing.ensures ∙ not-false _ (ap not c.if-not-playing.false)) (sym c.one_of.ensures ∙ c.if-one_of.true))
-
-pub chord_pass-s-requires : goal.chord_pass-s-requires
-chord_pass-s-requires c = record { laid_at = c.requires.laid; pass_room_at = c.requires.room }
-
-pub shape_of-shown-then-one_of-2 : goal.shape_of-shown-then-one_of-2
-shape_of-shown-then-one_of-2 c = c.chord_pass-s.auto.shown
-
-pub shape_of-work-then-one_of-2 : goal.shape_of-work-then-one_of-2
-shape_of-work-then-one_of-2 c = c.chord_pass-s.auto.work
-
-pub returns-then-one_of-2 : goal.returns-then-one_of-2
-returns-then-one_of-2 c = leaves_scan _ _ _ _ _ _ _ _ _ c.chord_pass-s.ensures (chord_alone _ _ (sym c.playing.ensures ∙ not-false _ (ap not c.if-not-playing.false)) (sym c.one_of.ensures ∙ c.if-one_of.false) (sym c.one_of-2.ensures ∙ c.if-one_of-2.true))
-
-pub returns : goal.returns
-returns c = leaves_here (sym (chord_none _ _ (sym c.playing.ensures ∙ not-false _ (ap not c.if-not-playing.false)) (sym c.one_of.ensures ∙ c.if-one_of.false) (sym c.one_of-2.ensures ∙ c.if-one_of-2.false)))
+pub returns-in_default : goal.returns-in_default
+returns-in_default c =
+    let not = c.in_default.in_default-own.rest in
+    leaves_here (sym (chord_none _ _ (is_on _ _ c.ne.ensures c.if-ne.false) (neither _ 13 16 not.0.1) (neither _ 11 14 not.1)))

@@ -15,4 +15,4 @@ pub hand-requires : goal.hand-requires
 hand-requires g c = short (lt-leb 4 _ c.if-s-lt4.true) (handed_whole c.line_room-out.ensures c.put_broken-long.ensures)
 
 pub run_calls-requires : goal.run_calls-requires
-run_calls-requires g c = record { in_bounds = (omega arith, c.requires); reached = reached_start c.args.s.now c.two_at-asked.ensures.0 c.two_at-followed.ensures.0 }
+run_calls-requires g c = record { in_bounds = (omega arith, c.requires); reached = reached_start c.args.s.now c.two_at-asked.ensures c.two_at-followed.ensures }

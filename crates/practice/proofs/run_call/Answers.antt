@@ -11,9 +11,9 @@ pub slice_bounds-hand-end : goal.slice_bounds-hand-end
 slice_bounds-hand-end g c = sym (length-take-le _ _ (handed_fits c.line_room-out.ensures c.tell_call-told.ensures.line c.tell_call-told.auto.out))
 
 pub hand-requires : goal.hand-requires
-hand-requires g c = call c.requires.reached (call_some _ _ c.requires.call_is.0 c.requires.call_is.1) (handed_whole c.line_room-out.ensures c.tell_call-told.ensures.line)
+hand-requires g c = call c.requires.reached (call_some _ _ _ c.requires.call_is) (handed_whole c.line_room-out.ensures c.tell_call-told.ensures.line)
 
 pub returns-in_err-hand-clause-err : goal.returns-in_err-hand-clause-err
 returns-in_err-hand-clause-err g c =
     anyway c.from_residual.result
-    (_, call c.requires.reached (call_some _ _ c.requires.call_is.0 c.requires.call_is.1) (handed_whole c.line_room-out.ensures c.tell_call-told.ensures.line), c.in_err-hand.ensures.err)
+    (_, call c.requires.reached (call_some _ _ _ c.requires.call_is) (handed_whole c.line_room-out.ensures c.tell_call-told.ensures.line), c.in_err-hand.ensures.err)

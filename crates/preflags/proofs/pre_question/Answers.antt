@@ -1,9 +1,7 @@
 -- `preflags::pre_question` meets its contract.
-use Rattle.preflags.proofs.Cases.{pre_question_clears, pre_question_stays}
+use native.Mathlib.Omega.{arith}
+use Rattle.std.proofs.lemmas.Grind.{common_steps}
 use Rattle.preflags.proofs.pre_question.Goals as goal
 
-pub returns-then-n-eq0 : goal.returns-then-n-eq0
-returns-then-n-eq0 c = record { outcome = pre_question_clears _ c.args.i c.args.p _ _ _ c.right_click-o.result _ _ _ c.if-n-eq0.true c.right_click-o.ensures.outcome (c.clear-q.ensures _); same = c.right_click-o.ensures.same }
-
-pub returns : goal.returns
-returns c = record { outcome = pre_question_stays _ c.args.i c.args.p c.args.p _ _ c.right_click-o.result _ _ c.if-n-eq0.false c.right_click-o.ensures.outcome; same = c.right_click-o.ensures.same }
+pub returns-then-p-eq0 : goal.returns-then-p-eq0
+returns-then-p-eq0 c = let h = c.clear-position.ensures c.right_click-o.new.shown in grind (arith, common_steps)

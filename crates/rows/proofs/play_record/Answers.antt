@@ -2,8 +2,8 @@
 use Rattle.rows.proofs.Records.{entry_played, entry_ended}
 use Rattle.rows.proofs.play_record.Goals as goal
 
-pub returns-in-Event : goal.returns-in-Event
-returns-in-Event c = let a = c.args in entry_played a.mines.now a.section.now a.e a.p a.shown.now a.bits.now a.work.now c.nth.ensures _ _ _ c.in-Event.is c.next_event.ensures
+pub returns : goal.returns
+returns c = let a = c.args in entry_played a.mines.now a.section.now a.e a.p a.shown.now a.bits.now a.work.now c.nth.ensures _ c.in-Some.is c.next_event.ensures
 
-pub returns-in-End : goal.returns-in-End
-returns-in-End c = let a = c.args in entry_ended a.mines.now a.section.now a.e a.p a.shown.now a.bits.now a.work.now c.nth.ensures c.in-End.is
+pub returns-in_default : goal.returns-in_default
+returns-in_default c = let a = c.args in entry_ended a.mines.now a.section.now a.e a.p a.shown.now a.bits.now a.work.now c.nth.ensures c.in_default.is c.refused.ensures

@@ -1,6 +1,7 @@
 -- `scrub::numbers` meets its contract.
 use Rattle.scrub.proofs.Telling.{numbers_are}
+use Rattle.cells.proofs.Words.{byte_bit}
 use Rattle.scrub.proofs.numbers.Goals as goal
 
 pub returns : goal.returns
-returns c = numbers_are c.args.o c.wide.ensures.0 c.game_number.ensures c.wide-2.ensures.0 c.mouse_number.ensures c.one_if.ensures.0
+returns c = numbers_are c.args.o c.from.ensures c.from-3.ensures c.from-2.ensures c.from-5.ensures c.from-4.ensures (byte_bit _ c.from-6.ensures).0

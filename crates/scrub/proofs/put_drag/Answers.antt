@@ -13,7 +13,7 @@ pub put_line-first-requires : goal.put_line-first-requires
 put_line-first-requires c = line_room c.args.g c.args.o c.args.shown.now c.args.out.now c.requires c.args.o.start _ c.numbers-ns.ensures
 
 pub put_rows-requires : goal.put_rows-requires
-put_rows-requires c = rows_room c.args.g c.args.o c.args.shown.now c.args.out.now c.requires c.args.o.start _ c.numbers-ns.ensures c.put_line-first.ensures c.wide-rows.ensures.0 c.wide-columns.ensures.0
+put_rows-requires c = rows_room c.args.g c.args.o c.args.shown.now c.args.out.now c.requires c.args.o.start _ c.numbers-ns.ensures c.put_line-first.ensures c.from-rows.ensures c.from-columns.ensures
 
 pub returns : goal.returns
-returns c = put_told c.args.g c.args.o c.args.shown.now c.args.out.now c.requires c.args.o.start _ c.numbers-ns.ensures c.put_line-first.ensures c.wide-rows.ensures.0 c.wide-columns.ensures.0 c.if-o-ne0.false refl c.put_rows.ensures
+returns c = put_told c.args.g c.args.o c.args.shown.now c.args.out.now c.requires c.args.o.start _ c.numbers-ns.ensures c.put_line-first.ensures c.from-rows.ensures c.from-columns.ensures c.if-o-ne0.false refl c.put_rows.ensures

@@ -1,6 +1,7 @@
--- `tokens::number_from` meets its contract: the digits not yet counted, after the exact value that stands behind the counted one, make the whole number. The measure is what is left of the bytes.
+-- `tokens::number_from` meets its contract: the digits not yet counted, after the exact value that stands behind the counted one, make the whole number.
 use mathlib.Core.Path.{◌∙◌, sym}
 use borrow.Author.Tests.{not-true, not-false}
+use Rattle.rules.specs.Refusals.{refusal_number}
 use Rattle.tokens.proofs.Tokens.{counting_start, counting_turn, counting_stops, counting_ends}
 use mathlib.Core.Path.{ap}
 use mathlib.Core.Bool.{not}
@@ -19,4 +20,4 @@ pub loop-at-preserved : goal.loop-at-preserved
 loop-at-preserved c = counting_turn c.loop-at.invariant c.loop-at-test.true (sym c.is_digit.ensures ∙ not-false _ (ap not c.if-not-is_digit.false)) c.add_digit-value.ensures
 
 pub returns : goal.returns
-returns c = counting_ends c.loop-at.invariant _ c.loop-at-test.false
+returns c = counting_ends c.loop-at.invariant (refusal_number c.args.fault) c.loop-at-test.false

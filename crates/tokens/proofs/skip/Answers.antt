@@ -1,5 +1,4 @@
--- `tokens::skip` meets its contract: from here on the same bytes are skipped as from the start. The measure is what is left of the bytes.
-use mathlib.Core.Bool.{false}
+-- `tokens::skip` meets its contract: from here on the same bytes are skipped as from the start.
 use borrow.Author.Tests.{not-true, not-false}
 use Rattle.tokens.proofs.Skipping.{skip_turn, skip_stops, skip_ends}
 use mathlib.Core.Path.{ap}

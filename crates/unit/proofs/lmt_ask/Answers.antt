@@ -3,4 +3,4 @@ use Rattle.unit.proofs.Making.{ask_flat}
 use Rattle.unit.proofs.lmt_ask.Goals as goal
 
 pub returns : goal.returns
-returns c = ask_flat c.args.f _ _ _ c.score_in-s.ensures c.ask-a.ensures c.flat_advice.ensures
+returns c = ask_flat c.args.f _ _ _ c.from.ensures c.ask.ensures c.from-2.ensures

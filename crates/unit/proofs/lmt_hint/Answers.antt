@@ -4,4 +4,4 @@ use Rattle.unit.specs.Unit.{flat_hint}
 use Rattle.unit.proofs.lmt_hint.Goals as goal
 
 pub returns : goal.returns
-returns c = c.flat_hint.ensures ∙ ap flat_hint c.hint_on-h.ensures
+returns c = c.from.ensures ∙ ap flat_hint c.hint_on.ensures

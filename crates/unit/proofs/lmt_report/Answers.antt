@@ -3,4 +3,4 @@ use Rattle.unit.proofs.Making.{report_flat}
 use Rattle.unit.proofs.lmt_report.Goals as goal
 
 pub returns : goal.returns
-returns c = report_flat c.args.f _ _ _ c.score_in-s.ensures c.report-t.ensures c.flat_score.ensures
+returns c = report_flat c.args.f _ _ _ c.from.ensures c.report.ensures c.from-2.ensures

@@ -1,7 +1,7 @@
-use mathlib.Core.Path.{ap, refl}
+use mathlib.Core.Path.{ap}
 use native.Mathlib.Omega.{arith}
 use Rattle.verdicts.specs.Places.{place_in}
-use Rattle.verdicts.proofs.Lines.{case_room, case_put, case_none}
+use Rattle.verdicts.proofs.Lines.{case_room, case_put, none_put}
 use Rattle.verdicts.proofs.put_tail.Goals as goal
 
 -- src/lib.rt:38:76
@@ -22,7 +22,7 @@ put_claim-requires c = case_room c.in-ClaimDiffers.is c.requires.room
 
 -- src/lib.rt:31:1
 pub returns-in-Accepted : goal.returns-in-Accepted
-returns-in-Accepted c = case_none c.in-Accepted.is refl
+returns-in-Accepted c = none_put c.in-Accepted.is
 
 -- src/lib.rt:31:1
 pub returns-in-Refused : goal.returns-in-Refused
@@ -31,10 +31,6 @@ returns-in-Refused c = case_put c.in-Refused.is c.put_told.ensures
 -- src/lib.rt:31:1
 pub returns-in-EventRefused : goal.returns-in-EventRefused
 returns-in-EventRefused c = case_put c.in-EventRefused.is c.put_told-in-EventRefused.ensures
-
--- src/lib.rt:31:1
-pub returns-in-NotEnded : goal.returns-in-NotEnded
-returns-in-NotEnded c = case_none c.in-NotEnded.is refl
 
 -- src/lib.rt:31:1
 pub returns-in-ClaimDiffers : goal.returns-in-ClaimDiffers

@@ -1,20 +1,19 @@
 -- `writing::put_cells` meets its contract. The invariant: the cells not yet taken, written from here on, make the whole text.
--- The measure is how many are left.
 use Rattle.writing.proofs.Putting.{leads_start, leads_room, leads_turn, leads_done}
 use Rattle.writing.proofs.Spaced.{spaced_turn, spaced_done}
 use Rattle.writing.proofs.put_cells.Goals as goal
 
-pub loop-i-init : goal.loop-i-init
-loop-i-init c = leads_start
+pub loop-cell-init : goal.loop-cell-init
+loop-cell-init c = leads_start
 
 pub put_number-o-requires : goal.put_number-o-requires
-put_number-o-requires c = leads_room _ _ c.requires c.loop-i.invariant (spaced_turn _ _ c.wide.ensures.0 c.loop-i-test.true)
+put_number-o-requires c = leads_room _ _ c.requires c.loop-cell.invariant (spaced_turn _ _ c.from.ensures c.loop-cell-test.true)
 
-pub loop-i-preserved : goal.loop-i-preserved
-loop-i-preserved c = leads_turn _ _ c.loop-i.invariant (spaced_turn _ _ c.wide.ensures.0 c.loop-i-test.true) c.put_number-o.ensures
+pub loop-cell-preserved : goal.loop-cell-preserved
+loop-cell-preserved c = leads_turn _ _ c.loop-cell.invariant (spaced_turn _ _ c.from.ensures c.loop-cell-test.true) c.put_number-o.ensures
 
 pub shape_of-out : goal.shape_of-out
-shape_of-out c = c.loop-i.invariant.long
+shape_of-out c = c.loop-cell.invariant.long
 
 pub returns : goal.returns
-returns c = leads_done c.loop-i.invariant (spaced_done _ _ c.loop-i-test.false)
+returns c = leads_done c.loop-cell.invariant (spaced_done _ _ c.loop-cell-test.false)

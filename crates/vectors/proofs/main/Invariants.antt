@@ -1,8 +1,0 @@
--- `vectors::main` meets its contract: each turn leaves one book fewer.
-use Rattle.vectors.proofs.main.Given as goal
-
-abbrev pub invariant-loop-left : goal.invariant-loop-left
-invariant-loop-left l = Unit
-
-abbrev pub decreases-loop-left : goal.decreases-loop-left
-decreases-loop-left l = l.left
