@@ -42,7 +42,7 @@ pub fn step(
     ensures { StepIs p code row column mines.now shown.old bits.old work.old result shown.new bits.new work.new }
 {
     if let Err(refusal) = refusals::lent_refusal(p, mines, &*shown, &*bits, &*work) {
-        return refusals::refuse(refusal, p, mines);
+        return refusals::refuse_by(refusal, p, mines);
     }
     let Some(x) = mouse::decode(p.settings, row, column) else {
         return calls::refused(Refusal::Pointer, p);
@@ -94,7 +94,7 @@ pub fn step_flow(
     ensures { StepFlowIs p events.now mines.now shown.old bits.old work.old result shown.new bits.new work.new }
 {
     if let Err(refused) = refusals::flow_refusal(p, events, mines, &*shown, &*bits, &*work) {
-        return refusals::refuse(refused, p, mines);
+        return refusals::refuse_by(refused, p, mines);
     }
     if let Err(first) = first_refusal(p, events, &*shown) {
         return calls::refused(first, p);

@@ -1,5 +1,5 @@
 -- The place beside 22 and 23 is the first cell that fails the test, and no other number has one.
-use mathlib.Core.Path.{◌≡◌, refl, ap, sym, ◌∙◌, subst}
+use mathlib.Core.Path.{◌≡◌, refl, ap, ◌∙◌, subst}
 use mathlib.Core.Bool.{Bool, true, false}
 use mathlib.Core.List.{List}
 use Prim.Native.Nat.{ℕ, ◌*◌, ◌/◌, ◌%◌, ◌<◌, ◌≤◌}
@@ -9,9 +9,6 @@ use borrow.Author.Tests.{ne_eqb}
 use lib.ListN.{length}
 use lib.IntN.{ℤ}
 use Rattle.rules.specs.declared.Place.TheVariants.{Nowhere}
-use Rattle.rules.specs.declared.Refusal.{Refusal}
-use Rattle.rules.specs.declared.Refusal.TheVariants.{Value, Number}
-use Rattle.rules.specs.Refusals.{refusal_number}
 use Rattle.rules.specs.Words.{unless, every, first_not}
 use Rattle.rules.specs.Grid.{size_ok}
 use Rattle.rules.specs.Board.{value_ok_at, values_ok, number_ok, numbers_ok, some_safe, board_refusal, place_of, fault_of}
@@ -43,18 +40,6 @@ module _ (R C : ℕ) (B : List ℤ) (n : ℕ) where
   pub place_none : (n ≡ 22 → ⊥) → (n ≡ 23 → ⊥) → fault_of R C B n ≡ Nowhere
   unfolding fault_of
   place_none a b = simp (ne_eqb n 22 a, ne_eqb n 23 b)
-
--- 22 and 23 are one refusal each, and none is 0
-is_22 : (r : Refusal) → refusal_number r ≡ 22 → r ≡ Value
-is_22 Value e = refl
-is_22 r e = absurd (omega arith)
-
-is_23 : (r : Refusal) → refusal_number r ≡ 23 → r ≡ Number
-is_23 Number e = refl
-is_23 r e = absurd (omega arith)
-
-pub place_other : (R C : ℕ) (B : List ℤ) (r : Refusal) → (r ≡ Value → ⊥) → (r ≡ Number → ⊥) → Nowhere ≡ fault_of R C B (refusal_number r)
-place_other R C B r a b = sym (place_none R C B (refusal_number r) (λ e. a (is_22 r e)) (λ e. b (is_23 r e)))
 
 -- ---- what a number says of the board ---------------------------------------------------------------------------------------------------
 

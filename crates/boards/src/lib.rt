@@ -7,7 +7,7 @@ ghost use Rattle.rules.specs.Words.{first_not};
 ghost use Rattle.rules.specs.Grid.{cell_of};
 ghost use Rattle.rules.specs.Board.{value_ok, value_ok_at, values_ok, number_ok, numbers_ok, some_safe, safe_in, board_refusal, board_check, place_of, fault_of};
 ghost use Rattle.rules.specs.Lent.{bit_bytes};
-ghost use Rattle.rules.specs.Refusals.{refusal_number, found_number};
+ghost use Rattle.rules.specs.Refusals.{found_number};
 ghost use Rattle.rules.specs.Clicks.{desk};
 ghost use Rattle.rules.specs.Calls.{cells_in, fresh_desk};
 ghost use Rattle.cells.specs.Ground.{Valued, Mined};
@@ -152,22 +152,20 @@ fn place_of(columns: u8, cell: usize) -> Place
     Place::At { row, column }
 }
 
-// The faulty cell beside 22 and 23. It is searched for again: a board that is accepted pays nothing.
-pub fn fault_of(rows: u8, columns: u8, mines: &[i8], refusal: Refusal) -> Place
-    requires { Placeable rows columns mines.now (refusal_number refusal) }
-    ensures { result ≡ fault_of rows columns mines.now (refusal_number refusal) }
+// The faulty cell beside 22 and 23, by the number, as the definition has it. It is searched for again: a board that is accepted pays nothing.
+pub fn fault_of(rows: u8, columns: u8, mines: &[i8], n: u16) -> Place
+    requires { Placeable rows columns mines.now n }
+    ensures { result ≡ fault_of rows columns mines.now n }
 {
-    match refusal {
-        Refusal::Value => {
-            let cell = value_fault(mines);
-            place_of(columns, cell)
-        }
-        Refusal::Number => {
-            let cell = number_fault(mines, usize::from(rows), usize::from(columns));
-            place_of(columns, cell)
-        }
-        _ => Place::Nowhere,
+    if n == 22 {
+        let cell = value_fault(mines);
+        return place_of(columns, cell);
     }
+    if n == 23 {
+        let cell = number_fault(mines, usize::from(rows), usize::from(columns));
+        return place_of(columns, cell);
+    }
+    Place::Nowhere
 }
 
 // How many cells are safe.
@@ -192,8 +190,8 @@ pub fn fresh_desk(s: Settings, mines: &[i8], shown: &mut [u8], bits: &mut [u8]) 
     requires bits_len { length bits.old ≡ bit_bytes (cells_in s) }
     ensures { desk result shown.new bits.new ≡ fresh_desk s mines.now }
 {
-    shown.fill(10);
-    bits.fill(0);
+    cells::fill(&mut *shown, 10);
+    cells::fill(&mut *bits, 0);
     let safe = safe_cells(mines);
     rules::fresh(s, safe)
 }

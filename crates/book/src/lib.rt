@@ -118,9 +118,9 @@ fn read_mines(s: &[u8], at: usize, settings: Settings) -> Book
         return refuse(Refusal::AllMines, at);
     }
     let from = at + 2;
+    let mut place = from;
     let mut next = 0usize;
-    for n in 0..mines {
-        let place = from + 2 * n;
+    for _n in 0..mines {
         if s.len() < place + 2 {
             return refuse(Refusal::Short, s.len());
         }
@@ -130,8 +130,9 @@ fn read_mines(s: &[u8], at: usize, settings: Settings) -> Book
             return refuse(Refusal::MineList, place);
         }
         next = cell(row, column, columns) + 1;
+        place += 2;
     }
-    read_events(s, from + 2 * mines, settings, from, mines)
+    read_events(s, place, settings, from, mines)
 }
 
 // The rules number of settings whose bytes are there: 1 unless a fifth byte has it.

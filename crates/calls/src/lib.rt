@@ -97,7 +97,7 @@ fn set_up(
     ensures { set_up result shown.new bits.new ≡ setup_by (found_number found) mines.now otherwise s shown.old bits.old }
 {
     if let Err(refusal) = found {
-        return refusals::refuse(refusal, otherwise, mines);
+        return refusals::refuse_by(refusal, otherwise, mines);
     }
     let p = boards::fresh_desk(s, mines, &mut *shown, &mut *bits);
     answer(0, p, 0)
@@ -136,7 +136,7 @@ pub fn step_game_state(p: Position, mines: &[i8], shown: &[u8], bits: &[u8], eve
     ensures { StepGameStateIs p mines.now shown.now bits.now event result }
 {
     if let Err(refusal) = refusals::check_refusal(p, mines, shown, bits) {
-        return refusals::refuse(refusal, p, mines);
+        return refusals::refuse_by(refusal, p, mines);
     }
     if 1 < event {
         return refused(Refusal::Event, p);
@@ -157,7 +157,7 @@ pub fn get_bbbv_solved(p: Position, mines: &[i8], shown: &[u8], bits: &[u8]) -> 
     ensures { BbbvSolvedIs p mines.now shown.now bits.now result }
 {
     if let Err(refusal) = refusals::check_refusal(p, mines, shown, bits) {
-        return refusals::refuse(refusal, p, mines);
+        return refusals::refuse_by(refusal, p, mines);
     }
     let both = solved(p);
     answer(0, p, both)
@@ -174,7 +174,7 @@ pub fn left_to_solve(
     ensures { LeftToSolveIs p mines.now shown.now bits.now work.old result work.new }
 {
     if let Err(refusal) = refusals::lent_refusal(p, mines, shown, bits, &*work) {
-        return refusals::refuse(refusal, p, mines);
+        return refusals::refuse_by(refusal, p, mines);
     }
     let left = left_on(
         p.settings.rows,

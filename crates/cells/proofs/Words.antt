@@ -245,6 +245,11 @@ stack_below m w (suc n) b i h = go (ℕ_discrete i n) (stack_below m w n b.1 i)
     go (yes d) rec = rw d b.0
     go (no d) rec = rec (omega arith)
 
+pub below_stack : (m : ℕ) (w : List ℕ) (n : ℕ) → ((i : ℕ) → i < n → get_or w i 0 < m) → Below m (stack_of w n)
+unfolding stack_of
+below_stack m w zero h = tt
+below_stack m w (suc n) h = (h n (omega arith), below_stack m w n (λ i l. h i (omega arith)))
+
 -- the entries of a list of cells are cells
 pub below_at : (m : ℕ) (w : List ℕ) → Below m w → (i : ℕ) → i < length w → get_or w i 0 < m
 below_at m [] b i h = absurd (omega arith)

@@ -1,10 +1,10 @@
 -- A desk in bytes and back: what is put is what is taken up, and what stands elsewhere in the room stays.
 use mathlib.Core.Path.{◌≡◌, refl, ap, sym, ◌∙◌}
 use mathlib.Core.Bool.{Bool, true, false}
-use mathlib.Core.List.{List, [], ◌∷◌, ◌++◌, append_assoc}
+use mathlib.Core.List.{List, [], ◌∷◌, ◌++◌, append_assoc, append-nil}
 use Prim.Native.Nat.{ℕ, ◌+◌, ◌-◌, ◌*◌, ◌/◌, ◌%◌, ◌<◌, ◌≤◌}
 use native.Mathlib.Omega.{arith}
-use lib.ListN.{length, get_or, take, drop, length-append, length-drop, get_or-append}
+use lib.ListN.{length, get_or, take, drop, length-append, length-drop, drop_of_length-le, get_or-append}
 use lib.Seq.{get_or-take, get_or-drop, get_or-append-add, drop_at, take_at, drop-drop, take-add, take-take, take_all, length-take-le, ext_get_or}
 use Rattle.rules.specs.declared.Settings.{Settings}
 use Rattle.rules.specs.declared.Position.{Position}
@@ -16,7 +16,7 @@ use Rattle.rules.specs.Words.{bit}
 use Rattle.rules.specs.States.{game_number, game_at, mouse_number, mouse_at}
 use Rattle.rules.specs.Clicks.{desk}
 use Rattle.writing.specs.Put.{Room, Put}
-use Rattle.writing.proofs.Putting.{each_turn, each_done, put_reads, put_length}
+use Rattle.writing.proofs.Putting.{each_turn, each_done, put_reads, put_as, put_length}
 use Rattle.rules.specs.Slides.{four_bytes, fours, state_bytes, numbers_kept, desk_bytes, slot_size, four_at, yes, settings_in, position_in, desk_in}
 use Rattle.keeping.specs.Keeps.{Fits}
 use Rattle.keeping.proofs.Reading.{counts_read, secrets_read, position_read}
@@ -75,22 +75,34 @@ module _ (s t : List ℕ) (same : (k : ℕ) → k < 56 → get_or s k 0 ≡ get_
       (secrets_read t (four_same 32 (omega arith)) (four_same 44 (omega arith)) (four_same 48 (omega arith))))
 
 -- what a part of the room is, as the code cuts it
-module _ (room : List ℕ) (a n : ℕ) where
+module _ (room : List ℕ) (a n : ℕ) (there : a + n ≤ length room) where
   cut_is : take (a + n - a) (drop a room) ≡ take n (drop a room)
   cut_is = ap (λ (k : ℕ). take k (drop a room)) (let e : a + n - a ≡ n = omega arith in e)
 
-  cut_length : a + n ≤ length room → length (take n (drop a room)) ≡ n
-  cut_length there = length-take-le n (drop a room) (let l = length-drop a room in omega arith)
+  cut_length : length (take n (drop a room)) ≡ n
+  cut_length = length-take-le n (drop a room) (let l = length-drop a room in omega arith)
 
-pub desk_taken : (room shown bits : List ℕ) (at : ℕ) {p : Position} {s b : List ℕ} → at + slot_size (length shown) (length bits) ≤ length room
+  -- written from the start of a list, it is the list's front
+  cut_front : {out out' : List ℕ} {r : ℕ} → n ≤ length out → Put (take (a + n - a) (drop a room)) 0 out out' r → out' ≡ take n (drop a room) ++ drop n out
+  cut_front {out} {out'} {r} h p =
+      let q : Put (take n (drop a room)) 0 out out' r = put_as cut_is p in
+      let l : length (take n (drop a room)) ≡ n = cut_length in
+      put_reads (record { fits = omega arith }) q ∙ ap (λ (k : ℕ). take n (drop a room) ++ drop k out) (let e : 0 + length (take n (drop a room)) ≡ n = omega arith in e)
+
+  -- and the whole of a list that is as long
+  cut_whole : {out out' : List ℕ} {r : ℕ} → length out ≡ n → Put (take (a + n - a) (drop a room)) 0 out out' r → out' ≡ take n (drop a room)
+  cut_whole {out} {out'} {r} h p =
+      cut_front (omega arith) p ∙ (ap (λ (l : List ℕ). take n (drop a room) ++ l) (drop_of_length-le out {i = n} (omega arith)) ∙ append-nil (take n (drop a room)))
+
+pub desk_taken : (room shown bits : List ℕ) (at : ℕ) {p : Position} {s b : List ℕ} {r r' : ℕ} → at + slot_size (length shown) (length bits) ≤ length room
     → p ≡ position_in (take (length room - at) (drop at room))
-    → s ≡ take (at + 56 + length shown - (at + 56)) (drop (at + 56) room)
-    → b ≡ take (at + 56 + length shown + length bits - (at + 56 + length shown)) (drop (at + 56 + length shown) room)
+    → Put (take (at + 56 + length shown - (at + 56)) (drop (at + 56) room)) 0 shown s r
+    → Put (take (at + 56 + length shown + length bits - (at + 56 + length shown)) (drop (at + 56 + length shown) room)) 0 bits b r'
     → desk p s b ≡ desk_in (length shown) (length bits) (drop at room)
 unfolding desk_in
 desk_taken room shown bits at {p} {s} {b} h hp hs hb =
-    let es : s ≡ take (length shown) (drop (at + 56) room) = hs ∙ cut_is room (at + 56) (length shown) in
-    let eb : b ≡ take (length bits) (drop (at + 56 + length shown) room) = hb ∙ cut_is room (at + 56 + length shown) (length bits) in
+    let es : s ≡ take (length shown) (drop (at + 56) room) = cut_whole room (at + 56) (length shown) (omega arith) refl hs in
+    let eb : b ≡ take (length bits) (drop (at + 56 + length shown) room) = cut_whole room (at + 56 + length shown) (length bits) (omega arith) refl hb in
     let ds : drop 56 (drop at room) ≡ drop (at + 56) room = drop-drop 56 at room in
     let db : drop (56 + length shown) (drop at room) ≡ drop (at + 56 + length shown) room =
     drop-drop (56 + length shown) at room ∙ ap (λ (k : ℕ). drop k room) (let e : at + (56 + length shown) ≡ at + 56 + length shown = omega arith in e) in

@@ -190,7 +190,8 @@ pub fn take_desk(room: &[u8], at: usize, shown: &mut [u8], bits: &mut [u8]) -> P
     let cells = at + HEAD;
     let first = cells + shown.len();
     let last = first + bits.len();
-    shown.copy_from_slice(&room[cells..first]);
-    bits.copy_from_slice(&room[first..last]);
+    // By `writing`, and not by `copy_from_slice`, which calls `memmove`.
+    writing::put_bytes(&mut *shown, 0, &room[cells..first]);
+    writing::put_bytes(&mut *bits, 0, &room[first..last]);
     position_in(&room[at..])
 }

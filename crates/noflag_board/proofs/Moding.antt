@@ -124,13 +124,12 @@ moded_refuses mode n m = go (eqb mode 0) (leb 20 n && leb n 24) (ne_eqb mode 0 m
     go false false e f z = omega arith
 
 pub setup_other : (s : Settings) (B : List ℤ) (shown bits : List ℕ) (found n : ℕ) (p : Position) (r : Answer) → (s.mode ≡ 0 → ⊥)
-    → found ≡ setup_refusal s B shown bits → n ≡ other_moded found → p ≡ fresh_of s 0 → r ≡ refuses B p n
+    → found ≡ setup_refusal s B shown bits → n ≡ moded s.mode found → p ≡ fresh_of s 0 → r ≡ refuses B p n
     → set_up r shown bits ≡ class_setup_of s B shown bits
 unfolding class_setup_of setup_by
 setup_other s B shown bits found n p r m ef en ep er =
-    let em : n ≡ moded s.mode found = en ∙ sym (ap (λ (t : Bool). pick t found (other_moded found)) (ne_eqb s.mode 0 m)) in
-    let k : n ≡ class_setup_refusal s B shown bits = em ∙ (ap (moded s.mode) ef ∙ sym (setup_moded s B shown bits)) in
-    let z : class_setup_refusal s B shown bits ≡ 0 → ⊥ = λ q. moded_refuses s.mode found m (sym em ∙ (k ∙ q)) in
+    let k : n ≡ class_setup_refusal s B shown bits = en ∙ (ap (moded s.mode) ef ∙ sym (setup_moded s B shown bits)) in
+    let z : class_setup_refusal s B shown bits ≡ 0 → ⊥ = λ q. moded_refuses s.mode found m (sym en ∙ (k ∙ q)) in
     ap (λ (a : Answer). set_up a shown bits) (er ∙ ap₂ (λ (q : Position) (m : ℕ). refuses B q m) ep k)
     ∙ simp (ne_eqb (class_setup_refusal s B shown bits) 0 z)
 

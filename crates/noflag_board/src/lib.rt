@@ -71,9 +71,9 @@ pub fn setup(settings: Settings, mines: &[i8], shown: &mut [u8], bits: &mut [u8]
         return calls::setup(settings, mines, &mut *shown, &mut *bits);
     }
     let found = refusals::setup_refusal(settings, mines, &*shown, &*bits);
-    let refusal = other_moded(found);
+    let n = refusals::number_of(moded(settings.mode, found));
     let p = rules::fresh(settings, 0);
-    refusals::refuse(refusal, p, mines)
+    refusals::refuse(n, p, mines)
 }
 
 // ---- step --------------------------------------------------------------------------------------------------------------------------------
@@ -92,7 +92,7 @@ fn unplayed(
 {
     let found = refusals::lent_refusal(p, mines, shown, bits, work);
     if let Err(refusal) = moded(p.settings.mode, found) {
-        return refusals::refuse(refusal, p, mines);
+        return refusals::refuse_by(refusal, p, mines);
     }
     let barred = forbids(p, row, column);
     calls::refused(barred, p)

@@ -10,7 +10,7 @@ ghost use Rattle.rules.specs.Mouse.{rules_ok};
 ghost use Rattle.rules.specs.Calls.{refuses, checks, boards_fit, work_fits, settings_refusal, position_refusal, position_check, lent_refusal, setup_refusal, total_refusal, flow_refusal};
 ghost use Rattle.boards.specs.Faults.{Placeable};
 
-use rules::{Answer, Place, Position, Refusal, Settings, Value};
+use rules::{Answer, Position, Refusal, Settings, Value};
 
 // ---- what is lent ----------------------------------------------------------------------------------------------------------------------
 
@@ -136,17 +136,25 @@ pub fn number_of(found: Result<(), Refusal>) -> u16
     }
 }
 
-// A refusal: the position as it was, and beside 22 and 23 the faulty cell.
-pub fn refuse(refusal: Refusal, p: Position, mines: &[i8]) -> Answer
-    requires { Placeable p.settings.rows p.settings.columns mines.now (refusal_number refusal) }
-    ensures { result ≡ refuses mines.now p (refusal_number refusal) }
+// A refusal by its number, as `refuses` of rules/specs has it: the position as it was, and beside 22 and 23 the faulty cell.
+pub fn refuse(n: u16, p: Position, mines: &[i8]) -> Answer
+    requires { Placeable p.settings.rows p.settings.columns mines.now n }
+    ensures { result ≡ refuses mines.now p n }
 {
     Answer {
-        number: u16::from(refusal),
-        place: boards::fault_of(p.settings.rows, p.settings.columns, mines, refusal),
+        number: n,
+        place: boards::fault_of(p.settings.rows, p.settings.columns, mines, n),
         position: p,
         value: 0,
     }
+}
+
+// The same by its name.
+pub fn refuse_by(refusal: Refusal, p: Position, mines: &[i8]) -> Answer
+    requires { Placeable p.settings.rows p.settings.columns mines.now (refusal_number refusal) }
+    ensures { result ≡ refuses mines.now p (refusal_number refusal) }
+{
+    refuse(u16::from(refusal), p, mines)
 }
 
 // What a check has found, 0 too, with that cell.
@@ -154,16 +162,10 @@ pub fn found(rows: u8, columns: u8, mines: &[i8], found: Result<(), Refusal>) ->
     requires { Placeable rows columns mines.now (found_number found) }
     ensures { result ≡ checks rows columns mines.now (found_number found) }
 {
-    match found {
-        Ok(()) => Value {
-            number: 0,
-            place: Place::Nowhere,
-            value: 0,
-        },
-        Err(refusal) => Value {
-            number: u16::from(refusal),
-            place: boards::fault_of(rows, columns, mines, refusal),
-            value: 0,
-        },
+    let n = number_of(found);
+    Value {
+        number: n,
+        place: boards::fault_of(rows, columns, mines, n),
+        value: 0,
     }
 }

@@ -19,7 +19,7 @@ pub fn resolve(
     ensures { ResolveIs p code row column mines.now shown.now bits.now result }
 {
     if let Err(refusal) = refusals::check_refusal(p, mines, shown, bits) {
-        return refusals::refuse(refusal, p, mines);
+        return refusals::refuse_by(refusal, p, mines);
     }
     let Some(_) = mouse::decode(p.settings, row, column) else {
         return calls::refused(Refusal::Pointer, p);

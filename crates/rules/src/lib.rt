@@ -427,18 +427,16 @@ pub fn fresh(settings: Settings, unopened: u32) -> Position
 }
 
 impl Position {
-    pub fn with_game(mut self, g: GameState) -> Position
+    pub fn with_game(self, g: GameState) -> Position
         ensures { result ≡ with_game self g }
     {
-        self.game = g;
-        self
+        Position { game: g, ..self }
     }
 
-    pub fn with_mouse(mut self, m: MouseState) -> Position
+    pub fn with_mouse(self, m: MouseState) -> Position
         ensures { result ≡ with_mouse self m }
     {
-        self.mouse = m;
-        self
+        Position { mouse: m, ..self }
     }
 
     pub fn with_middle(mut self, b: bool) -> Position

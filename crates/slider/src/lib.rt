@@ -1,5 +1,6 @@
 // THE SLIDER over a recorded game: opened on a book, dragged to an event, reset. It says how many positions are kept in the room that the caller lends.
-// Public: nothing here asks anything of its caller but drag_on, which `drag_to` calls. The contracts cite specs/Promises.antt over the chapter Slides.
+// Public: nothing here asks anything of its caller but drag_refusal and drag_on, which `drag_to` calls. The contracts cite specs/Promises.antt over
+// the chapter Slides.
 #![tactic(auto)]
 
 ghost use Rattle.std.specs.Prelude.{◌≡◌, List, ℕ, ◌≤◌, ℤ, eqb, leb, length};

@@ -22,7 +22,7 @@ pub struct Number {
 fn is_space(b: u8) -> bool
     ensures { result ≡ is_space b }
 {
-    matches!(b, b' ' | b'\t' | b'\r' | b'\n')
+    b" \t\r\n".contains(&b)
 }
 
 #[tactic(auto, unfolding(rules::specs::Picture::is_digit))]

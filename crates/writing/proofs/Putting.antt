@@ -1,13 +1,12 @@
 -- Writing text after text: two texts one after the other are one text, and a loop that has written the front of a text has the rest to write. From a bound to the room, and back.
 use mathlib.Core.Path.{◌≡◌, refl, ap, sym, ◌∙◌}
 use mathlib.Core.List.{List, [], ◌∷◌, ◌++◌, append_assoc}
-use Prim.Native.Nat.{ℕ, suc, ◌+◌, ◌-◌, ◌<◌, ◌≤◌}
+use Prim.Native.Nat.{ℕ, suc, ◌+◌, ◌<◌, ◌≤◌}
 use native.Mathlib.Omega.{arith}
 use native.Mathlib.Numerals.{add-one}
 use native.Mathlib.Nat.{add-zero, zero-add, add-suc, suc-add}
 use lib.ListN.{length, get_or, drop, take, length-append, drop_of_length-le}
-use borrow.Rule.Slice.PartMut.{put_mid, post_of}
-use lib.Seq.{sets, length-sets, sets-eq, drop-cons, drop-drop, drop_at, take_at, length-take-le}
+use lib.Seq.{sets, length-sets, sets-eq, drop-cons, drop_at, take_at, length-take-le}
 use Rattle.rules.specs.Words.{over}
 use Rattle.writing.specs.Put.{Room, Put, PutWithin}
 
@@ -64,20 +63,6 @@ put_front {text} {out} {out'} h p =
 pub put_one : {text : List ℕ} {at r q : ℕ} {out a b : List ℕ} → Put text at out a r → Put text at out b q → (a ≡ b) × (r ≡ q)
 put_one p q = (p.same ∙ sym q.same, p.next ∙ sym q.next)
 
--- ---- a text copied into a part ----------------------------------------------------------------------------------------------------------
-
-pub put_part : (text : List ℕ) (at : ℕ) {out new : List ℕ} → Room text at out → new ≡ text → Put text at out (put_mid at (at + length text - at) out new) (at + length text)
-put_part text at {out} {new} room e =
-    let k : at + length text - at ≡ length text = omega arith in
-    record {
-      next = refl;
-      same =
-          ap (λ (l : List ℕ). take at out ++ (l ++ post_of at (at + length text - at) out)) e
-          ∙ ap (λ (n : ℕ). take at out ++ (text ++ post_of at n out)) k
-          ∙ ap (λ (l : List ℕ). take at out ++ (text ++ l)) (drop-drop (length text) at out)
-          ∙ sym (append_assoc (take at out) text (drop (at + length text) out)) ∙ sym (sets-eq text out at room.fits);
-    }
-
 -- ---- a loop ----------------------------------------------------------------------------------------------------------------------------
 
 -- the rest, written from here on, makes the whole text
@@ -118,6 +103,12 @@ module _ (one : ℕ → List ℕ) (each : List ℕ → List ℕ) (none : each []
 
   pub each_done : (ns : List ℕ) (i : ℕ) → length ns ≤ i → each (drop i ns) ≡ []
   each_done ns i h = rw (drop_of_length-le ns {i = i} h) none
+
+pub bytes_turn : (s : List ℕ) (i : ℕ) → i < length s → drop i s ≡ (get_or s i 0 ∷ []) ++ drop (i + 1) s
+bytes_turn = each_turn (λ x. x ∷ []) (λ s. s) refl (λ x xs. refl)
+
+pub bytes_done : (s : List ℕ) (i : ℕ) → length s ≤ i → drop i s ≡ []
+bytes_done = each_done (λ x. x ∷ []) (λ s. s) refl (λ x xs. refl)
 
 -- ---- a text by another name ------------------------------------------------------------------------------------------------------------
 

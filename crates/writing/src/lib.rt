@@ -18,9 +18,12 @@ pub fn put_bytes(out: &mut [u8], at: usize, word: &[u8]) -> usize
     requires { Room word.now at out.old }
     ensures { Put word.now at out.old out.new result }
 {
-    let end = at + word.len();
-    out[at..end].copy_from_slice(word);
-    end
+    let mut o = at;
+    // One by one: `copy_from_slice` calls `memmove`, which an archive would need from outside.
+    for b in word {
+        o = put_byte(out, o, *b);
+    }
+    o
 }
 
 // Two digits.

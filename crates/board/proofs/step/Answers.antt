@@ -9,11 +9,11 @@ use Rattle.board.proofs.Stepping.{step_unfit, step_heard, step_done, settings_ke
 use Rattle.cells.proofs.Refused.{never_0}
 use Rattle.board.proofs.step.Goals as goal
 
-pub refuse-requires : goal.refuse-requires
-refuse-requires c = lent_placeable _ _ _ _ c.in-Err.ensures
+pub refuse_by-requires : goal.refuse_by-requires
+refuse_by-requires c = lent_placeable _ _ _ _ c.in-Err.ensures
 
 pub returns-in-Err : goal.returns-in-Err
-returns-in-Err c = let a = c.args in step_unfit _ a.code a.row a.column a.p _ _ _ _ c.in-Err.ensures _ (never_0 _) c.refuse.ensures
+returns-in-Err c = let a = c.args in step_unfit _ a.code a.row a.column a.p _ _ _ _ c.in-Err.ensures _ (never_0 _) c.refuse_by.ensures
 
 pub returns-in_default-decode : goal.returns-in_default-decode
 returns-in_default-decode c = let a = c.args in

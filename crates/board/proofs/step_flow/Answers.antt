@@ -6,11 +6,11 @@ use Rattle.board.proofs.Flowing.{flow_unfit, flow_first, flow_done, first_large,
 use Rattle.cells.proofs.Refused.{never_0}
 use Rattle.board.proofs.step_flow.Goals as goal
 
-pub refuse-requires : goal.refuse-requires
-refuse-requires c = flow_placeable _ _ _ _ _ c.in-Err.ensures
+pub refuse_by-requires : goal.refuse_by-requires
+refuse_by-requires c = flow_placeable _ _ _ _ _ c.in-Err.ensures
 
 pub returns-in-Err : goal.returns-in-Err
-returns-in-Err c = flow_unfit _ c.args.events.now c.args.p _ _ _ _ c.in-Err.ensures _ (never_0 _) c.refuse.ensures
+returns-in-Err c = flow_unfit _ c.args.events.now c.args.p _ _ _ _ c.in-Err.ensures _ (never_0 _) c.refuse_by.ensures
 
 pub returns-in-Err-first_refusal : goal.returns-in-Err-first_refusal
 returns-in-Err-first_refusal c = flow_first _ c.args.events.now c.args.p _ _ _ _ c.in_default.ensures _ _ refl (first_large c.args.mines.now c.args.events.now (desk c.args.p c.args.shown.now c.args.bits.now) _ (c.in-Err-first_refusal.ensures _) (never_0 _)).0 (first_large c.args.mines.now c.args.events.now (desk c.args.p c.args.shown.now c.args.bits.now) _ (c.in-Err-first_refusal.ensures _) (never_0 _)).1 (never_0 _) c.refused.ensures

@@ -1,11 +1,9 @@
 -- `book::read_mines` meets its contract. The invariant: n mines are read and right, and what is left to read is what the section says.
 use borrow.Author.Tests.{not-true, not-false}
 use native.Mathlib.Omega.{arith}
-use mathlib.Core.Path.{◌≡◌, ◌∙◌, sym, ap, refl, subst}
+use mathlib.Core.Path.{◌∙◌, sym, ap, refl}
 use Rattle.cells.proofs.Words.{bytes_product, product_same}
-use Prim.Native.Nat.{ℕ, ◌+◌, ◌*◌}
-use Rattle.rules.specs.Book.{events_from}
-use Rattle.book.proofs.Reading.{Reached, mines_short_count, mines_too_many, reached_start, reached_short, reached_wrong, reached_more, reached_done}
+use Rattle.book.proofs.Reading.{mines_short_count, mines_too_many, reached_start, reached_short, reached_wrong, reached_more, reached_done}
 use mathlib.Core.Bool.{not}
 use Rattle.book.proofs.read_mines.Goals as goal
 
@@ -19,9 +17,7 @@ pub returns-then-from-mines : goal.returns-then-from-mines
 returns-then-from-mines c = c.refuse-then-from-mines.ensures ∙ sym (mines_too_many _ _ _ _ _ c.if-s-at.false c.word_at-mines.ensures.0 (product_same c.from.ensures c.from-2.ensures) c.if-from-mines.true)
 
 pub loop-n-init : goal.loop-n-init
-loop-n-init c =
-    subst (λ (p : ℕ). Reached c.args.s.now c.args.at c.args.settings c.word_at-mines.result p 0 0) (omega arith)
-    (reached_start c.args.s.now c.args.at c.args.settings _ _ c.if-s-at.false c.word_at-mines.ensures.0 (product_same c.from.ensures c.from-2.ensures) c.if-from-mines.false)
+loop-n-init c = reached_start _ _ _ _ _ c.if-s-at.false c.word_at-mines.ensures.0 (product_same c.from.ensures c.from-2.ensures) c.if-from-mines.false
 
 pub returns-then-s-place : goal.returns-then-s-place
 returns-then-s-place c = c.refuse-then-s-place.ensures ∙ sym (reached_short _ _ _ _ _ _ _ c.loop-n.invariant c.loop-n-test.true c.if-s-place.true)
@@ -30,15 +26,10 @@ pub returns-then-not-mine_fits : goal.returns-then-not-mine_fits
 returns-then-not-mine_fits c = c.refuse-then-not-mine_fits.ensures ∙ sym (reached_wrong _ _ _ _ _ _ _ c.loop-n.invariant _ _ c.loop-n-test.true c.if-s-place.false refl refl (sym c.mine_fits.ensures ∙ not-true _ (ap not c.if-not-mine_fits.true)))
 
 pub loop-n-preserved : goal.loop-n-preserved
-loop-n-preserved c =
-    subst (λ (p : ℕ). Reached c.args.s.now c.args.at c.args.settings c.word_at-mines.result p (c.cell-next.result + 1) (c.loop-n.n + 1)) (omega arith)
-    (reached_more _ _ _ _ _ _ _ c.loop-n.invariant _ _ c.loop-n-test.true c.if-s-place.false refl refl _ (sym c.mine_fits.ensures ∙ not-false _ (ap not c.if-not-mine_fits.false)) c.cell-next.ensures.0)
+loop-n-preserved c = reached_more _ _ _ _ _ _ _ c.loop-n.invariant _ _ c.loop-n-test.true c.if-s-place.false refl refl _ (sym c.mine_fits.ensures ∙ not-false _ (ap not c.if-not-mine_fits.false)) c.cell-next.ensures.0
 
 pub read_events-requires : goal.read_events-requires
-read_events-requires c = omega (arith, c.loop-n.invariant.within, c.loop-n.invariant.upto)
+read_events-requires c = c.loop-n.invariant.within
 
 pub returns : goal.returns
-returns c =
-    let e : c.loop-n.n ≡ c.word_at-mines.result = omega (arith, c.loop-n.invariant.upto) in
-    c.read_events.ensures ∙ ap (λ (k : ℕ). events_from c.args.s.now (c.args.at + 2 + 2 * k) c.args.settings (c.args.at + 2) c.word_at-mines.result) (sym e)
-    ∙ sym (reached_done _ _ _ _ _ _ _ c.loop-n.invariant c.loop-n-test.false)
+returns c = c.read_events.ensures ∙ sym (reached_done _ _ _ _ _ _ _ c.loop-n.invariant c.loop-n-test.false)

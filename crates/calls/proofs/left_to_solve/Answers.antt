@@ -6,11 +6,11 @@ use Rattle.calls.proofs.Making.{left_refused, left_answered}
 use Rattle.cells.proofs.Refused.{never_0}
 use Rattle.calls.proofs.left_to_solve.Goals as goal
 
-pub refuse-requires : goal.refuse-requires
-refuse-requires c = lent_placeable _ _ _ _ c.in-Err.ensures
+pub refuse_by-requires : goal.refuse_by-requires
+refuse_by-requires c = lent_placeable _ _ _ _ c.in-Err.ensures
 
 pub returns-in-Err : goal.returns-in-Err
-returns-in-Err c = left_refused _ _ _ _ c.in-Err.ensures _ (never_0 _) c.refuse.ensures
+returns-in-Err c = left_refused _ _ _ _ c.in-Err.ensures _ (never_0 _) c.refuse_by.ensures
 
 pub left_on-left-requires : goal.left_on-left-requires
 left_on-left-requires c = let whole = lent_mined _ _ _ _ c.in_default.ensures refl in record { mined = whole.0; columns_in_bounds = whole.1 }

@@ -6,11 +6,11 @@ use Rattle.resolving.proofs.Resolving.{resolve_unfit, resolve_bad, resolve_full,
 use Rattle.cells.proofs.Refused.{never_0}
 use Rattle.resolving.proofs.resolve.Goals as goal
 
-pub refuse-requires : goal.refuse-requires
-refuse-requires c = check_placeable _ _ _ c.in-Err.ensures
+pub refuse_by-requires : goal.refuse_by-requires
+refuse_by-requires c = check_placeable _ _ _ c.in-Err.ensures
 
 pub returns-in-Err : goal.returns-in-Err
-returns-in-Err c = let a = c.args in resolve_unfit _ a.code a.row a.column _ _ _ _ c.in-Err.ensures _ (never_0 _) c.refuse.ensures
+returns-in-Err c = let a = c.args in resolve_unfit _ a.code a.row a.column _ _ _ _ c.in-Err.ensures _ (never_0 _) c.refuse_by.ensures
 
 pub returns-in_default-decode : goal.returns-in_default-decode
 returns-in_default-decode c = let a = c.args in
